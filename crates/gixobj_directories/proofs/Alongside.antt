@@ -15,12 +15,13 @@ use Rattle.gixobj_sorted.proofs.Sublists.{all_both, all_weaker}
 use Rattle.gixobj_tree.specs.Entries.{EntryView}
 use Rattle.gixobj_tree.specs.KeyOrder.{ComesBefore, entry_key, key_of}
 use Rattle.gixobj_mode.specs.Mode.{is_tree_mode}
-use Rattle.gixobj_directories.specs.declared.open.Child.{Child}
-use Rattle.gixobj_directories.specs.WriteErrors.{pairs_after_next, child_side, next_child}
+use Rattle.gixobj_open.specs.declared.open.Child.{Child}
+use Rattle.gixobj_open.specs.Children.{pairs_after_next, next_child}
+use Rattle.gixobj_directories.specs.WriteErrors.{child_side}
 use Rattle.gixobj_directories.specs.Frames.{Ahead}
-use Rattle.gixobj_directories.specs.Nested.{IsLevel, Level, Opened, Part, at_side, opened, part, part_at, part_key, parts}
-use Rattle.gixobj_directories.proofs.Levels.{level_at_by}
-use Rattle.gixobj_directories.proofs.Ordered.{Before, names_differ, level_names_apart}
+use Rattle.gixobj_open.specs.Nested.{IsLevel, Level, Opened, Part, at_side, opened, part, part_at, part_key, parts}
+use Rattle.gixobj_open.proofs.Levels.{level_at_by}
+use Rattle.gixobj_open.proofs.Ordered.{Before, names_differ, level_names_apart}
 
 -- the next child is what is open at the entry, and those after it are those of the other entries
 pub record Stepped (node : Opened) (e : EntryView) (rest : List EntryView) (next : Option Child) (after : List Child) : Type 0 where

@@ -14,18 +14,20 @@ use Rattle.gixobj_files.specs.WrittenTrees.{SharesBase, so_far}
 use Rattle.gixobj_files.specs.declared.written_tree.WrittenTree.{WrittenTree}
 use Rattle.gixobj_files.specs.declared.written_tree.WrittenTree.TheVariants.{Prefix}
 use Rattle.gixobj_directories.specs.Calls.{IsStorable}
-use Rattle.gixobj_directories.specs.Children.{remaining_list}
+use Rattle.gixobj_open.specs.Children.{remaining_list}
 use Rattle.gixobj_directories.specs.Frames.{Ahead, EmitsAfter, EmitsNext, EmitsOwn, HasCome, HasResumed, IsBegun, IsInStep, Waits, child_weight, frame_weight, held_entries, own_entries, remaining_entries, weight_of}
-use Rattle.gixobj_directories.specs.LeafTrees.{child_leaf_trees, inside_of, leaf_trees}
-use Rattle.gixobj_directories.specs.Nested.{IsLevel, Opened, base_side, bases_of, below, dirs_of, entries_side, opened, parts, under}
-use Rattle.gixobj_directories.specs.WriteErrors.{EmitsEntry, child_side, next_child, pairs_after_next}
-use Rattle.gixobj_directories.specs.declared.children.Remaining.{Remaining}
+use Rattle.gixobj_directories.specs.TakenTrees.{child_leaf_trees}
+use Rattle.gixobj_open.specs.LeafTrees.{inside_of, leaf_trees}
+use Rattle.gixobj_open.specs.Nested.{IsLevel, Opened, base_side, bases_of, below, dirs_of, entries_side, opened, parts, under}
+use Rattle.gixobj_directories.specs.WriteErrors.{EmitsEntry, child_side}
+use Rattle.gixobj_open.specs.Children.{next_child, pairs_after_next}
+use Rattle.gixobj_open.specs.declared.children.Remaining.{Remaining}
 use Rattle.gixobj_directories.specs.declared.frames.Frame.{Frame}
-use Rattle.gixobj_directories.specs.declared.open.Child.{Child}
+use Rattle.gixobj_open.specs.declared.open.Child.{Child}
 use Rattle.gixobj_directories.proofs.Alongside.{Stepped, ahead_of_opened, stepped_succ}
 use Rattle.gixobj_directories.proofs.Emitting.{walk_exists_of_open, walk_goes, walk_step, walks_of_count, written_is_storable}
-use Rattle.gixobj_directories.proofs.LeafTrees.{leaf_trees_of_next_child, remaining_nil}
-use Rattle.gixobj_directories.proofs.Levels.{dirs_of_nil}
+use Rattle.gixobj_directories.proofs.TakenTrees.{leaf_trees_of_next_child, remaining_nil}
+use Rattle.gixobj_open.proofs.Levels.{dirs_of_nil}
 
 -- the entries from a position on begin with the entry at it
 pub drop_entry_cons : (xs : List EntryView) (i : ℕ) (e : EntryView) → i < length xs → e ≡ get_or xs i e → drop i xs ≡ e ∷ drop (i + 1) xs

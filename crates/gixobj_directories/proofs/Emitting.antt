@@ -21,14 +21,14 @@ use Rattle.gixobj_files.specs.Files.{Path, is_null}
 use Rattle.gixobj_directories.specs.WriteErrors.{IsWriteError, EmitsEntry, child_side}
 use Rattle.gixobj_hash.specs.declared.hash.object_id.ObjectId.TheVariants.{Sha1}
 use Rattle.gixobj_files.specs.Emission.{EmitsSome, EmitsBelow, EmitsEntries, left_out_if_empty, end, entry_unless_null, of_entries, unopened, unchanged, written}
-use Rattle.gixobj_directories.specs.Nested.{Level, Opened, at_side, bases_of, dirs_of}
-use Rattle.gixobj_directories.specs.declared.open.Child.{Child}
+use Rattle.gixobj_open.specs.Nested.{Level, Opened, at_side, bases_of, dirs_of}
+use Rattle.gixobj_open.specs.declared.open.Child.{Child}
 use Rattle.gixobj_files.specs.Opening.{Dirs, in_dir}
 use Rattle.gixobj_directories.specs.declared.write.WriteError.{WriteError}
 use Rattle.gixobj_directories.specs.declared.write.WriteError.TheVariants as write
 use Rattle.gixobj_files.proofs.Counts.{raised_raised}
 use Rattle.gixobj_sorted.proofs.Sublists.{all_weaker}
-use Rattle.gixobj_directories.proofs.Levels.{tied, tied_cons}
+use Rattle.gixobj_open.proofs.Levels.{tied, tied_cons}
 use Rattle.gixobj_files.proofs.SameTrees.{entries_eq_or_ne}
 
 -- a walk with an equal count

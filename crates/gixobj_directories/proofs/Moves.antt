@@ -12,12 +12,12 @@ use Rattle.gixobj_sorted.proofs.Joined.{are_non_empty_set, non_empty_at}
 use Rattle.gixobj_tree.specs.Entries.{EntryView}
 use Rattle.gixobj_tree.specs.KeyOrder.{key_of}
 use Rattle.gixobj_tree.specs.WellFormed.{EachLater}
-use Rattle.gixobj_directories.specs.LeafTrees.{leaf_trees}
+use Rattle.gixobj_open.specs.LeafTrees.{leaf_trees}
 use Rattle.gixobj_directories.specs.Moves.{moved_on, moved_out}
-use Rattle.gixobj_directories.specs.Nested.{IsLevel, Opened, Part, below, length-under, part, parts, under}
-use Rattle.gixobj_directories.specs.declared.open.Child.{Child}
-use Rattle.gixobj_directories.proofs.LeafTrees.{leaf_trees_below_cons}
-use Rattle.gixobj_directories.proofs.Pieces.{joined_snoc}
+use Rattle.gixobj_open.specs.Nested.{IsLevel, Opened, Part, below, length-under, part, parts, under}
+use Rattle.gixobj_open.specs.declared.open.Child.{Child}
+use Rattle.gixobj_open.proofs.LeafTrees.{leaf_trees_below_cons}
+use Rattle.gixobj_open.proofs.Pieces.{joined_snoc}
 
 -- the names stay
 all_moved_on : (P : List ℕ → Type 0) (first : Opened) (ps : List Part) → AllByRecursion (λ p. P p.0) ps → AllByRecursion (λ p. P p.0) (moved_on first ps)

@@ -12,10 +12,10 @@ use Rattle.gixobj_files.specs.OpeningStops as halting
 use Rattle.gixobj_files.specs.Opening.{Dirs, HasAt, IsOpened, in_dir, in_path}
 use Rattle.gixobj_files.proofs.HasTrees.{entry_of_has_tree}
 use Rattle.gixobj_files.proofs.OpenedFiles.{same_name_refl}
-use Rattle.gixobj_directories.specs.Descents.{AreAbove, HaveTrees, IsDescended, IsExchanged, KeepsOpen, rebuilt}
-use Rattle.gixobj_directories.specs.Nested.{Opened, bases_of, dirs_of, entries_side, opened, parts}
+use Rattle.gixobj_open.specs.Descents.{AreAbove, HaveTrees, IsDescended, IsExchanged, KeepsOpen, rebuilt}
+use Rattle.gixobj_open.specs.Nested.{Opened, bases_of, dirs_of, entries_side, opened, parts}
 use Rattle.gixobj_directories.specs.Openings.{EndsBefore, IsOpenErrorAt, OfTrees}
-use Rattle.gixobj_directories.specs.declared.open.Child.{Child}
+use Rattle.gixobj_open.specs.declared.open.Child.{Child}
 use Rattle.gixobj_directories.specs.declared.opening.Error.{Error}
 use Rattle.gixobj_directories.specs.declared.opening.NotLookedUp.{NotLookedUp}
 use Rattle.gixobj_store.specs.Stores.{Objects}
@@ -24,8 +24,8 @@ use Rattle.bstr.specs.Owned.{bstring_bytes}
 use Rattle.bstr.specs.declared.bstring.BString.{BString}
 use Rattle.gixobj_directories.specs.Calls.{names_of}
 use Rattle.std.specs.Cmp.Lexicographic.{bytes_decides}
-use Rattle.gixobj_directories.proofs.BaseSteps.{opening, unmoved}
-use Rattle.gixobj_directories.proofs.Descents.{at_ascent, at_descent, bases_at_ascent, in_dir_with_dir, is_descended_nil, is_descended_snoc, names_of_parts, names_of_take_more, with_dir_twice, with_path_append}
+use Rattle.gixobj_open.proofs.BaseSteps.{opening, unmoved}
+use Rattle.gixobj_open.proofs.Descents.{at_ascent, at_descent, bases_at_ascent, in_dir_with_dir, is_descended_nil, is_descended_snoc, names_of_parts, names_of_take_more, with_dir_twice, with_path_append}
 use Rattle.gixobj_directories.proofs.OpeningSteps.{GoesDown, GoesIn, HaltsAt, IsFormedList, OpensAs, StaysOpened, counted_append, stays_opened_goes_down, halts_at_goes_down, halts_at_goes_in, opens_goes_down, opens_goes_in}
 
 same_head : (x y : List ℕ) (xs ys : Path) → x ∷ xs ≡ y ∷ ys → x ≡ y

@@ -11,28 +11,26 @@ use Rattle.gixobj_tree.specs.Entries.{EntryView}
 use Rattle.gixobj_tree.specs.WellFormed.{EachLater, IsWellFormed}
 use Rattle.gixobj_mode.specs.Mode.{is_tree_mode}
 use Rattle.gixobj_hash.specs.declared.hash.object_id.ObjectId.{ObjectId}
-use Rattle.bstr.specs.declared.bstring.BString.{BString}
-use Rattle.gixobj_directories.specs.Calls.{names_of}
 use Rattle.gixobj_files.specs.Editing.{same_name}
 use Rattle.gixobj_files.specs.Edits.{Finds, IsEntryOf, Opens, counted, down, found, only_open, raised, stops, with_dir}
 use Rattle.gixobj_files.specs.Files.{ContainsEntry, Path, Trees}
-use Rattle.gixobj_directories.specs.Nested.{IsLevel, Opened, Part, dirs_of, in_part, opened, parts, with_part}
+use Rattle.gixobj_open.specs.Nested.{IsLevel, Opened, Part, dirs_of, in_part, opened, parts, with_part}
 use Rattle.gixobj_files.specs.OpeningStops.{StopsOpening, at_once, without_answer}
 use Rattle.gixobj_files.specs.OpeningStops as halting
 use Rattle.gixobj_files.specs.Opening.{Dirs, HasAt, IsOpened, in_dir}
 use Rattle.gixobj_files.specs.Tables.{IsNeverLookedUp}
 use Rattle.gixobj_directories.specs.Openings.{EndsBefore}
-use Rattle.gixobj_directories.specs.declared.open.Child.{Child}
+use Rattle.gixobj_open.specs.declared.open.Child.{Child}
 use Rattle.gixobj_directories.specs.declared.opening.NotLookedUp.{NotLookedUp}
 use Rattle.gixobj_directories.specs.declared.opening.NotLookedUp.TheVariants as not_looked_up
 use Rattle.gixobj_files.proofs.Counts.{raised_raised}
 use Rattle.gixobj_files.proofs.UnopenedCounts.{IsIdle}
 use Rattle.gixobj_files.proofs.StillOpenedOpenings.{is_opened_in_dir, is_opened_of_only, is_opened_with_dir}
 use Rattle.gixobj_files.proofs.HasTrees.{entry_of_has_tree, has_tree_of_entry}
-use Rattle.gixobj_directories.proofs.Levels.{IsChanged, IsChild, dirs_of_opened_cons, child_has_tree, is_level_with_part, is_level_set, becomes_of_with_part, becomes_of_set}
-use Rattle.gixobj_directories.proofs.Levels as levels
-use Rattle.gixobj_directories.proofs.Steps.{replaced}
-use Rattle.gixobj_directories.proofs.Ordered.{level_names_apart}
+use Rattle.gixobj_open.proofs.Levels.{IsChanged, IsChild, dirs_of_opened_cons, child_has_tree, is_level_with_part, is_level_set, becomes_of_with_part, becomes_of_set}
+use Rattle.gixobj_open.proofs.Levels as levels
+use Rattle.gixobj_open.proofs.Steps.{dirs_of_childless, replaced}
+use Rattle.gixobj_open.proofs.Ordered.{level_names_apart}
 
 -- an entry differs in its name from those after it
 name_ne_of_later : (x : EntryView) (ys : List EntryView) (other : EntryView) → AllByRecursion (λ y. x.name ≢ y.name) ys → ContainsEntry ys other
@@ -99,14 +97,6 @@ pub requested_len_le_one : (trees : Trees) (id : ObjectId) (entries : List Entry
     → length looked_up ≤ 1
 requested_len_le_one trees id entries looked_up (formed, inl h) = subst (λ (l : List ObjectId). length l ≤ 1) (sym h.2) (omega arith)
 requested_len_le_one trees id entries looked_up (formed, inr h) = subst (λ (l : List ObjectId). length l ≤ 1) (sym h.2) (omega arith)
-
--- in a directory without open ones its own list alone is open
-pub dirs_of_childless : (es : List EntryView) → dirs_of (opened es [] []) ≡ only_open es
-dirs_of_childless es = λ i at. here at i
-  where
-    here : (at : Path) → dirs_of (opened es [] []) at ≡ only_open es at
-    here [] = refl
-    here (name ∷ path) = refl
 
 -- a relation in the directory of a name holds in the directory above it
 abbrev pub GoesDown : (Path → Dirs → Dirs → List ObjectId → Type 0) → Type 0
@@ -217,10 +207,6 @@ pub is_level_of_new_child : (name : List ℕ) (es : List EntryView) (cs : List C
     → IsLevel es (parts new)
 is_level_of_new_child name es cs level e entry tree inner new is =
     subst (IsLevel es) (sym is) (is_level_with_part name inner es (parts cs) (has_tree_of_entry name es e entry.0 entry.1 tree) level)
-
-pub names_of_nil : (path : List BString) → length path ≡ 0 → names_of path ≡ []
-names_of_nil [] h = refl
-names_of_nil (name ∷ rest) h = absurd (omega (arith, h))
 
 -- the list that an entry's directory is opened with
 abbrev pub OpensAs : (EntryView → Type 0) → Trees → EntryView → List EntryView → List ObjectId → Type 0

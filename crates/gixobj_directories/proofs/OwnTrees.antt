@@ -8,7 +8,7 @@ use Rattle.gixobj_files.specs.Opening.{Dirs}
 use Rattle.gixobj_directories.specs.Frames.{EmitsOwn}
 use Rattle.gixobj_directories.specs.WriteErrors.{EmitsEntry}
 use Rattle.gixobj_directories.proofs.Emitting.{emits_entry_emptied, emits_entry_unchanged, emits_entry_written}
-use Rattle.gixobj_directories.proofs.LeafTrees.{some_unique}
+use Rattle.gixobj_directories.proofs.TakenTrees.{some_unique}
 
 emits_entry_append_nil : (inside based : Dirs) (e : EntryView) (inner : List Pair) (kept : List EntryView) (m n : ℕ) → m ≡ n
     → EmitsEntry inside based e inner kept m → EmitsEntry inside based e (inner ++ []) kept n

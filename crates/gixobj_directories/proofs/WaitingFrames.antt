@@ -1,5 +1,5 @@
 -- The frames of a walk: each waits for the next. What came of all, and how each is finished where the walk stops.
-use Rattle.std.proofs.Common.{◌≡◌, ◌∙◌, ◌+◌, ℕ, List, [], ◌∷◌, ◌++◌, Some, drop, length, refl, sym, ap, subst, arith, append_assoc, append-nil}
+use Rattle.std.proofs.Common.{◌≡◌, ◌∙◌, ◌+◌, ℕ, List, [], ◌∷◌, ◌++◌, Some, drop, refl, sym, ap, subst, arith, append_assoc, append-nil}
 use Rattle.std.specs.Prelude.{reverse}
 use Rattle.std.specs.List.{FoldsTo}
 use Rattle.std.proofs.lemmas.List.{reverse-append}
@@ -8,8 +8,9 @@ use Rattle.gixobj_tree.specs.Entries.{EntryView, Pair}
 use Rattle.gixobj_files.specs.Edits.{raised}
 use Rattle.gixobj_files.specs.Emission.{EmitsBelow, EmitsEntries, of_entries}
 use Rattle.gixobj_directories.specs.Frames.{EmitsAfter, EmitsNext, HasCome, HasResumed, HasStepped, Waits, frame_weight, held_entries, own_entries, remaining_entries}
-use Rattle.gixobj_directories.specs.LeafTrees.{Adds, inside_of, leaf_trees}
-use Rattle.gixobj_directories.specs.Nested.{Opened, bases_of, dirs_of}
+use Rattle.gixobj_directories.specs.TakenTrees.{Adds}
+use Rattle.gixobj_open.specs.LeafTrees.{inside_of, leaf_trees}
+use Rattle.gixobj_open.specs.Nested.{Opened, bases_of, dirs_of}
 use Rattle.gixobj_directories.specs.WriteErrors.{IsWriteError}
 use Rattle.gixobj_directories.specs.declared.frames.Frame.{Frame}
 use Rattle.gixobj_directories.specs.declared.walk.Step.TheVariants as step
@@ -17,7 +18,7 @@ use Rattle.gixobj_directories.specs.declared.write.WriteError.{WriteError}
 use Rattle.gixobj_directories.specs.declared.write.WriteError.TheVariants as write
 use Rattle.gixobj_directories.proofs.Emitting.{emits_entry_open, folds_to_append, raised_append, stopped_after_folds, stopped_at_call, walk_exists_of_open, walk_goes}
 use Rattle.gixobj_directories.proofs.BegunFrames.{emits_below_of_ended, trees_of_ended}
-use Rattle.gixobj_directories.proofs.LeafTrees.{adds_append, adds_nil}
+use Rattle.gixobj_directories.proofs.TakenTrees.{adds_append, adds_nil}
 
 -- frames, the last begun first: each waits for the next, and the last for this directory; what came of all
 abbrev pub AllWait : Opened → List Frame → Opened → List Pair → List (List EntryView) → ℕ → Type 0
@@ -278,7 +279,3 @@ reverse_push fs f = reverse-append fs (f ∷ [])
 pub frames_weight_pop : (fs : List Frame) (f : Frame) → frames_weight (fs ++ f ∷ []) ≡ frames_weight fs + frame_weight f
 frames_weight_pop [] f = omega arith
 frames_weight_pop (g ∷ fs) f = omega (arith, frames_weight_pop fs f)
-
-pub nil_of_len : {X : Type 0} (xs : List X) → length xs ≡ 0 → xs ≡ []
-nil_of_len [] none = refl
-nil_of_len (x ∷ xs) none = absurd (omega (arith, none))

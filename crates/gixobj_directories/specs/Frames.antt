@@ -12,14 +12,15 @@ use Rattle.gixobj_files.specs.Emission.{EmitsBelow, EmitsEntries, entry_unless_n
 use Rattle.gixobj_files.specs.Files.{Path}
 use Rattle.gixobj_files.specs.Opening.{Dirs, in_dir}
 use Rattle.gixobj_files.specs.WrittenTrees.{SharesBase, so_far}
-use Rattle.gixobj_directories.specs.Children.{remaining_list}
-use Rattle.gixobj_directories.specs.LeafTrees.{child_leaf_trees, inside_of, leaf_trees}
-use Rattle.gixobj_directories.specs.Nested.{AreOrdered, Level, Opened, at_side, base_side, bases_of, below, dirs_of, entries_side, part_at, parts}
+use Rattle.gixobj_open.specs.Children.{remaining_list}
+use Rattle.gixobj_directories.specs.TakenTrees.{child_leaf_trees}
+use Rattle.gixobj_open.specs.LeafTrees.{inside_of, leaf_trees}
+use Rattle.gixobj_open.specs.Nested.{AreOrdered, Level, Opened, at_side, base_side, bases_of, below, dirs_of, entries_side, part_at, parts}
 use Rattle.gixobj_directories.specs.WriteErrors.{EmitsEntry, child_side}
 use Rattle.gixobj_directories.specs.declared.frames.Frame.{Frame}
 use Rattle.gixobj_directories.specs.declared.frames.HeldTree.{HeldTree}
 use Rattle.gixobj_directories.specs.declared.frames.HeldTree.TheVariants as held
-use Rattle.gixobj_directories.specs.declared.open.Child.{Child}
+use Rattle.gixobj_open.specs.declared.open.Child.{Child}
 use Rattle.gixobj_directories.specs.declared.walk.Passing.{Passing}
 use Rattle.gixobj_directories.specs.declared.walk.Passing.TheVariants as passing
 use Rattle.gixobj_directories.specs.declared.walk.Step.{Step}

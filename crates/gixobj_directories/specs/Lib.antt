@@ -1,13 +1,7 @@
 pub mod Calls
-pub mod Children
-pub mod Copies
-pub mod Decreases
-pub mod Descents
 pub mod Frames
-pub mod LeafTrees
 pub mod LookedUp
 pub mod Moves
-pub mod Nested
-pub mod NewDirectories
 pub mod Openings
+pub mod TakenTrees
 pub mod WriteErrors

@@ -1,6 +1,6 @@
 -- What is open in the directories of a list, moved on by one: the first gets another, and that of the last comes out.
 use Rattle.std.specs.Prelude.{List, [], ◌∷◌}
-use Rattle.gixobj_directories.specs.Nested.{Opened, Part}
+use Rattle.gixobj_open.specs.Nested.{Opened, Part}
 
 -- the directories, each with what was open in the one before it, and the first with this
 abbrev pub moved_on : Opened → List Part → List Part

@@ -1,14 +1,12 @@
 -- A write of open directories: which one is next, what one entry emits, and the errors of a write.
-use Rattle.std.specs.Prelude.{◌≡◌, ◌+◌, ℕ, List, [], ◌∷◌, ◌++◌, Option, Some, None, if◌then◌else◌}
+use Rattle.std.specs.Prelude.{◌≡◌, ◌+◌, ℕ, List, [], ◌∷◌, ◌++◌, Option, Some, None}
 use Rattle.std.specs.List.{FoldsTo}
 use Rattle.gixobj_tree.specs.Entries.{EntryView, Pair}
 use Rattle.gixobj_hash.specs.declared.hash.object_id.ObjectId.{ObjectId}
-use Rattle.bstr.specs.Owned.{bstring_bytes}
-use Rattle.gixobj_files.specs.Editing.{same_name}
 use Rattle.gixobj_files.specs.Emission.{EmitsEntries, entry_unless_null}
 use Rattle.gixobj_files.specs.Opening.{Dirs, in_dir}
-use Rattle.gixobj_directories.specs.declared.open.Child.{Child}
-use Rattle.gixobj_directories.specs.Nested.{Level, at_side}
+use Rattle.gixobj_open.specs.declared.open.Child.{Child}
+use Rattle.gixobj_open.specs.Nested.{Level, at_side}
 use Rattle.gixobj_directories.specs.declared.write.WriteError.{WriteError}
 use Rattle.gixobj_directories.specs.declared.write.WriteError.TheVariants as write
 
@@ -49,16 +47,6 @@ abbrev pub IsWriteError : {F E : Type 0} → (F → Pair → F → Type 0) → (
     → (List Pair → Type 0) → F → F → WriteError E → Type 0
 IsWriteError gave denies EmitsPairs old new (write.Out error) = IsOutError gave denies EmitsPairs old new error
 IsWriteError gave denies EmitsPairs old new write.OutOfMemory = IsMemoryError gave EmitsPairs old new
-
--- the first of these open directories, if it has this name
-abbrev pub next_child : List ℕ → List Child → Option Child
-next_child name [] = None
-next_child name (c ∷ cs) = if same_name (bstring_bytes c.name) name then Some c else None
-
--- the open directories after the first if that has this name, and else all of them
-abbrev pub pairs_after_next : List ℕ → List Child → List Child
-pairs_after_next name [] = []
-pairs_after_next name (c ∷ cs) = if same_name (bstring_bytes c.name) name then cs else c ∷ cs
 
 -- one list of each directory that is open in a child, if there is a child
 abbrev pub child_side : (Level → List EntryView) → Option Child → Dirs

@@ -2,11 +2,10 @@
 ghost use Rattle.std.specs.Prelude.{◌≡◌, ◌+◌, [], IfOk};
 ghost use Rattle.gixobj_directories.specs.Frames.{HasCome, HasRoot, frame_weight, held_entries, weight_of};
 
-use crate::children::Remaining;
-use crate::open::Open;
-use crate::write::base_of;
 use gixobj_files::open_entries::Entries;
 use gixobj_files::written_tree::WrittenTree;
+use gixobj_open::children::Remaining;
+use gixobj_open::open::{Open, base_of};
 use gixobj_tree::Tree;
 use gixobj_tree::tree::Entry;
 use std::alloc::{AllocError, Global};

@@ -2,47 +2,44 @@
 ghost use Rattle.std.specs.Prelude.{◌≡◌, ◌≢◌, ◌++◌, ◌+◌, ◌<◌, [], length};
 ghost use Rattle.std.specs.List.{flat_map};
 ghost use Rattle.gixobj_sorted.specs.Pieces.{AreNonEmpty};
-ghost use Rattle.gixobj_directories.specs.LeafTrees.{inside_of, leaf_trees, waiting_trees};
+ghost use Rattle.gixobj_open.specs.LeafTrees.{inside_of, leaf_trees, waiting_trees};
 ghost use Rattle.gixobj_directories.specs.Moves.{moved_on, moved_out};
-ghost use Rattle.gixobj_directories.specs.Nested.{AreFilled, child_list, parts};
+ghost use Rattle.gixobj_open.specs.Nested.{AreFilled, child_list, parts};
 
-use crate::open::{Child, Children, Open};
+use gixobj_open::open::{Child, Children, Open};
 use std::mem;
 
-impl Open {
-    /// Moves what is open in each directory in this one into the next, and `first` into the first.
-    ///
-    /// Returns the directory, and what was open in the last. The leaf trees stay in their order.
-    pub(crate) fn move_on(self, first: Open) -> (Open, Open)
-        requires { inside_of self ≢ [] }
-        ensures trees { waiting_trees result.0 result.1
-            ≡ leaf_trees first ++ leaf_trees (inside_of self) }
-        ensures sizes { length result.0 + length result.1 ≡ length first + length self }
-        ensures fewer { length result.1 < length self }
-    {
-        let (entries, base, mut children) = self.into_parts();
-        let last = children.move_on(first);
-        let directory = Open {
-            entries,
-            base,
-            children,
-        };
-        (directory, last)
-    }
+/// Moves what is open in each directory in this one into the next, and `first` into the first.
+///
+/// Returns the directory, and what was open in the last. The leaf trees stay in their order.
+pub(crate) fn move_on(directory: Open, first: Open) -> (Open, Open)
+    requires { inside_of directory ≢ [] }
+    ensures trees { waiting_trees result.0 result.1
+        ≡ leaf_trees first ++ leaf_trees (inside_of directory) }
+    ensures sizes { length result.0 + length result.1 ≡ length first + length directory }
+    ensures fewer { length result.1 < length directory }
+{
+    let (entries, base, mut children) = directory.into_parts();
+    let last = move_on_in_children(&mut children, first);
+    let rest = Open {
+        entries,
+        base,
+        children,
+    };
+    (rest, last)
 }
 
-impl Children {
-    /// Moves what is open in each directory into the next, and `first` into the first.
-    ///
-    /// Returns what was open in the last, and `first` if there is no directory.
-    fn move_on(&mut self, first: Open) -> Open
-        ensures moved { parts (child_list self.new) ≡ moved_on first (parts (child_list self.old)) }
-        ensures last { result ≡ moved_out first (parts (child_list self.old)) }
-        ensures filled { AreFilled self.old → AreFilled self.new }
-    {
-        let next = move_on_in_piece(&mut self.first, first);
-        move_on_in_pieces(&mut self.more, next)
-    }
+/// Moves what is open in each of these directories into the next, and `first` into the first.
+///
+/// Returns what was open in the last, and `first` if there is no directory.
+fn move_on_in_children(children: &mut Children, first: Open) -> Open
+    ensures moved { parts (child_list children.new)
+        ≡ moved_on first (parts (child_list children.old)) }
+    ensures last { result ≡ moved_out first (parts (child_list children.old)) }
+    ensures filled { AreFilled children.old → AreFilled children.new }
+{
+    let next = move_on_in_piece(&mut children.first, first);
+    move_on_in_pieces(&mut children.more, next)
 }
 
 /// Moves what is open in each directory of these pieces into the next, and `first` into the first.

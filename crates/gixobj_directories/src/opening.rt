@@ -1,5 +1,5 @@
 //! Opening of the directories on a path, whose trees are looked up in a store.
-ghost use Rattle.std.specs.Prelude.{◌≡◌, ◌↔◌, ◌∷◌, ◌≤◌, [], IfErr, IfNone, IfOk, IfSome, IsTrue, List, OnErr, OnOk, Option, Some, length, reverse, take, true};
+ghost use Rattle.std.specs.Prelude.{◌≡◌, ◌↔◌, ◌∷◌, ◌≤◌, [], IfErr, IfNone, IfOk, IfSome, IsTrue, List, OnErr, OnOk, Option, Some, false, length, reverse, take, true};
 ghost use Rattle.bstr.specs.Owned.{bstring_bytes};
 ghost use Rattle.gixobj_tree.specs.Entries.{EntryView};
 ghost use Rattle.gixobj_tree.specs.WellFormed.{IsWellFormed};
@@ -12,24 +12,24 @@ ghost use Rattle.gixobj_files.specs.Tables.{IsNeverLookedUp};
 ghost use Rattle.gixobj_hash.specs.declared.hash.object_id.ObjectId.{ObjectId};
 ghost use Rattle.gixobj_directories.specs.Calls.{names_of};
 ghost use Rattle.gixobj_files.specs.Bases.{opened_bases};
-ghost use Rattle.gixobj_directories.specs.Descents.{AreAbove, KeepsOpen, top_of};
-ghost use Rattle.gixobj_directories.specs.Nested.{bases_of, dirs_of};
+ghost use Rattle.gixobj_open.specs.Descents.{AreAbove, KeepsOpen, top_of};
+ghost use Rattle.gixobj_open.specs.Nested.{bases_of, dirs_of};
 ghost use Rattle.gixobj_directories.specs.Openings.{EndsBefore, NamesTree, OfTrees, IsOpenErrorAt, IsDirectoryError};
 ghost use Rattle.gixobj_directories.specs.declared.opening.NotLookedUp.TheVariants.{Unopened};
 
-use crate::descent::MAX_RECURSIVE;
-use crate::open::{Open, copy_tree, tree_id};
 use bstr::BString;
 use gixobj_files::open_entries::Entries;
 use gixobj_hash::hash::ObjectId;
 use gixobj_hash::{OutOfMemory, decode};
 use gixobj_keep::find::{existing_object, existing_tree};
+use gixobj_open::descent::MAX_RECURSIVE;
+use gixobj_open::open::{Open, copy_tree};
 use gixobj_store::{Find, find};
 use gixobj_tree::Tree;
 use std::alloc::{AllocError, Global};
 use std::{mem, slice};
 
-/// The error of [`Open::open_along`]: why a directory isn't opened.
+/// The error of [`open_along`]: why a directory isn't opened.
 #[derive(Debug, Drop, thiserror::Error)]
 pub enum Error {
     /// The lookup of the directory's tree failed, with this error.
@@ -110,6 +110,19 @@ fn is_not_looked_up(id: ObjectId) -> bool
     id.is_null() || id.is_empty_tree()
 }
 
+/// Returns the id of the entry of a name, if it is of tree mode.
+fn tree_id(entries: &Entries, name: &BString) -> Option<ObjectId>
+    requires { IsWellFormed entries.now }
+    ensures found { IfSome result (λ id. (e : EntryView)
+        × IsEntryOf (bstring_bytes name.now) (Some entries.now) e × (is_tree_mode e.mode ≡ true)
+        × (e.id ≡ id)) }
+    ensures none { IfNone result ((e : EntryView) → ContainsEntry entries.now e
+        → e.name ≡ bstring_bytes name.now → is_tree_mode e.mode ≡ false) }
+{
+    let entry = entries.find_tree(name.as_bytes())?;
+    Some(entry.oid)
+}
+
 /// Returns the id of the directory of a name, if there is one that an opening enters.
 fn next_id(entries: &Entries, name: &BString, not_looked_up: NotLookedUp) -> Option<ObjectId>
     requires { IsWellFormed entries.now }
@@ -180,167 +193,164 @@ fn load<S: Find>(
     find_copied(alloc, store, id)
 }
 
-impl Open {
-    /// Opens each directory on a path, from the top, until there is none.
-    ///
-    /// An open directory has the same entries afterwards. Any other is looked up in the store by the id of
-    /// its entry, and the tree that is found is its base too. A directory with the null id or the empty
-    /// tree's id isn't looked up. For it `not_looked_up` says whether it is opened as empty, or the opening
-    /// ends above it.
-    ///
-    /// Each lookup is counted in `lookups`, a failed one too. The count saturates at the maximum of `u64`.
-    ///
-    /// Allocates the trees that it opens, a base for each, and their names. In a directory with 128 open
-    /// directories or more it also allocates a part of their list.
-    ///
-    /// # Errors
-    ///
-    /// Directories that were opened before the error are open afterwards. The others are unchanged.
-    ///
-    /// - [`Error::FindExistingObject`] with the lookup's error, if the store fails, or a directory's id names
-    ///   no tree that decodes, except for lack of memory.
-    /// - [`Error::MalformedTree`] if the store's tree of a directory isn't well-formed.
-    /// - [`Error::OutOfMemory`] if an allocation fails, in the lookup too.
-    pub fn open_along<S: Find>(
-        &mut self,
-        alloc: Global,
-        path: &[BString],
-        not_looked_up: NotLookedUp,
-        store: &S,
-        lookups: &mut u64,
-    ) -> Result<(), Error>
-        ensures opened { OnOk result (OfTrees (S.objects store.now)
-            (λ trees. (looked_up : List ObjectId)
-            × Opens (EndsBefore not_looked_up) trees (names_of path.now) (dirs_of self.old)
-            (dirs_of self.new) looked_up × (lookups.new ≡ counted lookups.old looked_up))) }
-        ensures stopped_opening { IfErr result (λ error.
-            OfTrees (S.objects store.now)
-            (λ trees. (looked_up : List ObjectId) × (failed_lookup : Option ObjectId)
-            × StopsOpening (EndsBefore not_looked_up) trees (names_of path.now) (dirs_of self.old)
-            (dirs_of self.new) looked_up failed_lookup
-            × (lookups.new ≡ counted lookups.old looked_up)
-            × IsOpenErrorAt (S.objects store.now) (S.may_fail store.now) failed_lookup error)) }
-        ensures still_opened { IsOpened (dirs_of self.old) → IsOpened (dirs_of self.new) }
-        ensures bases { (at : Path) → bases_of self.new at
-            ≡ opened_bases (dirs_of self.old) (dirs_of self.new) (bases_of self.old) at }
-        ensures same_root { dirs_of self.new [] ≡ dirs_of self.old [] }
-        ensures root { (entries : List EntryView) × (dirs_of self.old [] ≡ Some entries) }
-    {
-        let _ = &self.entries;
-        if path.len() <= MAX_RECURSIVE {
-            return self.open_recursively(alloc, path, not_looked_up, store, lookups);
-        }
-        let mut above = Open::new(alloc, Tree::empty(alloc));
-        let (depth, opened) = self.open_and_enter(
-            &mut above,
-            alloc,
-            path,
-            not_looked_up,
-            store,
-            lookups,
-        );
-        self.leave(&mut above, &path[..depth]);
-        opened
+/// Opens each directory on a path, from the top, until there is none.
+///
+/// An open directory has the same entries afterwards. Any other is looked up in the store by the id of
+/// its entry, and the tree that is found is its base too. A directory with the null id or the empty
+/// tree's id isn't looked up. For it `not_looked_up` says whether it is opened as empty, or the opening
+/// ends above it.
+///
+/// Each lookup is counted in `lookups`, a failed one too. The count saturates at the maximum of `u64`.
+///
+/// Allocates the trees that it opens, a base for each, and their names. In a directory with 128 open
+/// directories or more it also allocates a part of their list.
+///
+/// # Errors
+///
+/// Directories that were opened before the error are open afterwards. The others are unchanged.
+///
+/// - [`Error::FindExistingObject`] with the lookup's error, if the store fails, or a directory's id names
+///   no tree that decodes, except for lack of memory.
+/// - [`Error::MalformedTree`] if the store's tree of a directory isn't well-formed.
+/// - [`Error::OutOfMemory`] if an allocation fails, in the lookup too.
+pub fn open_along<S: Find>(
+    alloc: Global,
+    node: &mut Open,
+    path: &[BString],
+    not_looked_up: NotLookedUp,
+    store: &S,
+    lookups: &mut u64,
+) -> Result<(), Error>
+    ensures opened { OnOk result (OfTrees (S.objects store.now)
+        (λ trees. (looked_up : List ObjectId)
+        × Opens (EndsBefore not_looked_up) trees (names_of path.now) (dirs_of node.old)
+        (dirs_of node.new) looked_up × (lookups.new ≡ counted lookups.old looked_up))) }
+    ensures stopped_opening { IfErr result (λ error.
+        OfTrees (S.objects store.now)
+        (λ trees. (looked_up : List ObjectId) × (failed_lookup : Option ObjectId)
+        × StopsOpening (EndsBefore not_looked_up) trees (names_of path.now) (dirs_of node.old)
+        (dirs_of node.new) looked_up failed_lookup
+        × (lookups.new ≡ counted lookups.old looked_up)
+        × IsOpenErrorAt (S.objects store.now) (S.may_fail store.now) failed_lookup error)) }
+    ensures still_opened { IsOpened (dirs_of node.old) → IsOpened (dirs_of node.new) }
+    ensures bases { (at : Path) → bases_of node.new at
+        ≡ opened_bases (dirs_of node.old) (dirs_of node.new) (bases_of node.old) at }
+    ensures same_root { dirs_of node.new [] ≡ dirs_of node.old [] }
+    ensures root { (entries : List EntryView) × (dirs_of node.old [] ≡ Some entries) }
+{
+    let _ = &node.entries;
+    if path.len() <= MAX_RECURSIVE {
+        return open_recursively(alloc, node, path, not_looked_up, store, lookups);
     }
+    let mut above = Open::new(alloc, Tree::empty(alloc));
+    let (depth, opened) = open_and_enter(
+        alloc,
+        node,
+        &mut above,
+        path,
+        not_looked_up,
+        store,
+        lookups,
+    );
+    node.leave(&mut above, &path[..depth]);
+    opened
+}
 
-    /// Opens the directories on a path one after the other, and enters each. Returns the number of those entered.
-    ///
-    /// This directory is the last of them then, with those above it in `above`.
-    fn open_and_enter<S: Find>(
-        &mut self,
-        above: &mut Open,
-        alloc: Global,
-        path: &[BString],
-        not_looked_up: NotLookedUp,
-        store: &S,
-        lookups: &mut u64,
-    ) -> (usize, Result<(), Error>)
-        ensures depth { result.0 ≤ length path.now }
-        ensures are_above { AreAbove (reverse (names_of (take result.0 path.now))) above.new }
-        ensures opened { OnOk result.1 (OfTrees (S.objects store.now)
-            (λ trees. (looked_up : List ObjectId)
-            × Opens (EndsBefore not_looked_up) trees (names_of path.now) (dirs_of self.old)
-            (dirs_of (top_of path.now result.0 above.new self.new)) looked_up
-            × (lookups.new ≡ counted lookups.old looked_up))) }
-        ensures stopped_opening { IfErr result.1 (λ error.
-            OfTrees (S.objects store.now)
-            (λ trees. (looked_up : List ObjectId) × (failed_lookup : Option ObjectId)
-            × StopsOpening (EndsBefore not_looked_up) trees (names_of path.now) (dirs_of self.old)
-            (dirs_of (top_of path.now result.0 above.new self.new)) looked_up failed_lookup
-            × (lookups.new ≡ counted lookups.old looked_up)
-            × IsOpenErrorAt (S.objects store.now) (S.may_fail store.now) failed_lookup error)) }
-        ensures still_opened { IsOpened (dirs_of self.old)
-            → IsOpened (dirs_of (top_of path.now result.0 above.new self.new)) }
-        ensures bases { (at : Path) → bases_of (top_of path.now result.0 above.new self.new) at
-            ≡ opened_bases (dirs_of self.old)
-            (dirs_of (top_of path.now result.0 above.new self.new)) (bases_of self.old) at }
-        ensures same_root { dirs_of (top_of path.now result.0 above.new self.new) []
-            ≡ dirs_of self.old [] }
-    {
-        let mut depth = 0;
-        for name in path {
-            let next = slice::from_ref(name);
-            if let Err(error) = self.open_recursively(alloc, next, not_looked_up, store, lookups) {
-                return (depth, Err(error));
-            }
-            if !self.exchange(name, above) {
-                return (depth, Ok(()));
-            }
-            mem::swap(self, above);
-            depth += 1;
+/// Opens the directories on a path one after the other, and enters each. Returns the number of those entered.
+///
+/// `node` is the last of them then, with those above it in `above`.
+fn open_and_enter<S: Find>(
+    alloc: Global,
+    node: &mut Open,
+    above: &mut Open,
+    path: &[BString],
+    not_looked_up: NotLookedUp,
+    store: &S,
+    lookups: &mut u64,
+) -> (usize, Result<(), Error>)
+    ensures depth { result.0 ≤ length path.now }
+    ensures are_above { AreAbove (reverse (names_of (take result.0 path.now))) above.new }
+    ensures opened { OnOk result.1 (OfTrees (S.objects store.now)
+        (λ trees. (looked_up : List ObjectId)
+        × Opens (EndsBefore not_looked_up) trees (names_of path.now) (dirs_of node.old)
+        (dirs_of (top_of path.now result.0 above.new node.new)) looked_up
+        × (lookups.new ≡ counted lookups.old looked_up))) }
+    ensures stopped_opening { IfErr result.1 (λ error.
+        OfTrees (S.objects store.now)
+        (λ trees. (looked_up : List ObjectId) × (failed_lookup : Option ObjectId)
+        × StopsOpening (EndsBefore not_looked_up) trees (names_of path.now) (dirs_of node.old)
+        (dirs_of (top_of path.now result.0 above.new node.new)) looked_up failed_lookup
+        × (lookups.new ≡ counted lookups.old looked_up)
+        × IsOpenErrorAt (S.objects store.now) (S.may_fail store.now) failed_lookup error)) }
+    ensures still_opened { IsOpened (dirs_of node.old)
+        → IsOpened (dirs_of (top_of path.now result.0 above.new node.new)) }
+    ensures bases { (at : Path) → bases_of (top_of path.now result.0 above.new node.new) at
+        ≡ opened_bases (dirs_of node.old)
+        (dirs_of (top_of path.now result.0 above.new node.new)) (bases_of node.old) at }
+    ensures same_root { dirs_of (top_of path.now result.0 above.new node.new) []
+        ≡ dirs_of node.old [] }
+{
+    let mut depth = 0;
+    for name in path {
+        let next = slice::from_ref(name);
+        if let Err(error) = open_recursively(alloc, node, next, not_looked_up, store, lookups) {
+            return (depth, Err(error));
         }
-        (depth, Ok(()))
+        if !node.exchange(name, above) {
+            return (depth, Ok(()));
+        }
+        mem::swap(node, above);
+        depth += 1;
     }
+    (depth, Ok(()))
+}
 
-    /// Opens each directory on a path by the rules of [`Open::open_along`], by a call for each name.
-    ///
-    /// # Errors
-    ///
-    /// Those of [`Open::open_along`].
-    fn open_recursively<S: Find>(
-        &mut self,
-        alloc: Global,
-        path: &[BString],
-        not_looked_up: NotLookedUp,
-        store: &S,
-        lookups: &mut u64,
-    ) -> Result<(), Error>
-        ensures opened { OnOk result (OfTrees (S.objects store.now)
-            (λ trees. (looked_up : List ObjectId)
-            × Opens (EndsBefore not_looked_up) trees (names_of path.now) (dirs_of self.old)
-            (dirs_of self.new) looked_up × (lookups.new ≡ counted lookups.old looked_up))) }
-        ensures stopped_opening { IfErr result (λ error.
-            OfTrees (S.objects store.now)
-            (λ trees. (looked_up : List ObjectId) × (failed_lookup : Option ObjectId)
-            × StopsOpening (EndsBefore not_looked_up) trees (names_of path.now) (dirs_of self.old)
-            (dirs_of self.new) looked_up failed_lookup
-            × (lookups.new ≡ counted lookups.old looked_up)
-            × IsOpenErrorAt (S.objects store.now) (S.may_fail store.now) failed_lookup error)) }
-        ensures still_opened { IsOpened (dirs_of self.old) → IsOpened (dirs_of self.new) }
-        ensures bases { (at : Path) → bases_of self.new at
-            ≡ opened_bases (dirs_of self.old) (dirs_of self.new) (bases_of self.old) at }
-        ensures same_root { dirs_of self.new [] ≡ dirs_of self.old [] }
-        ensures kept { KeepsOpen (dirs_of self.old) (dirs_of self.new) }
-        ensures root { (entries : List EntryView) × (dirs_of self.old [] ≡ Some entries) }
-    {
-        let _ = &self.entries;
-        let Some((name, rest)) = path.split_first() else {
-            return Ok(());
-        };
-        if let Some(place) = self.children.position(name) {
-            let child = self.children.at_mut(place);
-            return child
-                .open
-                .open_recursively(alloc, rest, not_looked_up, store, lookups);
-        }
-        let Some(id) = next_id(&self.entries, name, not_looked_up) else {
-            return Ok(());
-        };
-        let (own_name, piece) = self.children.room_for(alloc, name)?;
-        let (tree, base) = load(alloc, store, id, lookups)?;
-        let mut inner = Open::with_base(alloc, tree, base);
-        let opened = inner.open_recursively(alloc, rest, not_looked_up, store, lookups);
-        self.children.insert(piece, own_name, inner);
-        opened
+/// Opens each directory on a path by the rules of [`open_along`], by a call for each name.
+///
+/// # Errors
+///
+/// Those of [`open_along`].
+fn open_recursively<S: Find>(
+    alloc: Global,
+    node: &mut Open,
+    path: &[BString],
+    not_looked_up: NotLookedUp,
+    store: &S,
+    lookups: &mut u64,
+) -> Result<(), Error>
+    ensures opened { OnOk result (OfTrees (S.objects store.now)
+        (λ trees. (looked_up : List ObjectId)
+        × Opens (EndsBefore not_looked_up) trees (names_of path.now) (dirs_of node.old)
+        (dirs_of node.new) looked_up × (lookups.new ≡ counted lookups.old looked_up))) }
+    ensures stopped_opening { IfErr result (λ error.
+        OfTrees (S.objects store.now)
+        (λ trees. (looked_up : List ObjectId) × (failed_lookup : Option ObjectId)
+        × StopsOpening (EndsBefore not_looked_up) trees (names_of path.now) (dirs_of node.old)
+        (dirs_of node.new) looked_up failed_lookup
+        × (lookups.new ≡ counted lookups.old looked_up)
+        × IsOpenErrorAt (S.objects store.now) (S.may_fail store.now) failed_lookup error)) }
+    ensures still_opened { IsOpened (dirs_of node.old) → IsOpened (dirs_of node.new) }
+    ensures bases { (at : Path) → bases_of node.new at
+        ≡ opened_bases (dirs_of node.old) (dirs_of node.new) (bases_of node.old) at }
+    ensures same_root { dirs_of node.new [] ≡ dirs_of node.old [] }
+    ensures kept { KeepsOpen (dirs_of node.old) (dirs_of node.new) }
+    ensures root { (entries : List EntryView) × (dirs_of node.old [] ≡ Some entries) }
+{
+    let _ = &node.entries;
+    let Some((name, rest)) = path.split_first() else {
+        return Ok(());
+    };
+    if let Some(place) = node.children.position(name) {
+        let child = node.children.at_mut(place);
+        return open_recursively(alloc, &mut child.open, rest, not_looked_up, store, lookups);
     }
+    let Some(id) = next_id(&node.entries, name, not_looked_up) else {
+        return Ok(());
+    };
+    let (own_name, piece) = node.children.room_for(alloc, name)?;
+    let (tree, base) = load(alloc, store, id, lookups)?;
+    let mut inner = Open::with_base(alloc, tree, base);
+    let opened = open_recursively(alloc, &mut inner, rest, not_looked_up, store, lookups);
+    node.children.insert(piece, own_name, inner);
+    opened
 }

@@ -12,21 +12,21 @@ ghost use Rattle.gixobj_files.specs.Emission.{EmitsSome, EmitsBelow, Saves};
 ghost use Rattle.gixobj_files.specs.Opening.{in_path};
 ghost use Rattle.gixobj_directories.specs.Calls.{IsCallableOnTrees, IsStorable, names_of, answered, denied};
 ghost use Rattle.gixobj_directories.specs.WriteErrors.{IsWriteError, EmitsEntry, child_side, entry_if_some};
-ghost use Rattle.gixobj_directories.specs.Nested.{base_side, bases_of, dirs_of, entries_side, opened};
+ghost use Rattle.gixobj_open.specs.Nested.{base_side, bases_of, dirs_of, entries_side, opened};
 ghost use Rattle.gixobj_files.specs.WrittenTrees.{SharesBase, so_far};
 ghost use Rattle.gixobj_files.specs.FilteredTrees.{IsFilteredTree};
-ghost use Rattle.gixobj_directories.specs.LeafTrees.{Adds, child_leaf_trees, inside_of, leaf_trees};
+ghost use Rattle.gixobj_directories.specs.TakenTrees.{Adds, child_leaf_trees};
+ghost use Rattle.gixobj_open.specs.LeafTrees.{inside_of, leaf_trees};
 
-use crate::descent::MAX_RECURSIVE;
-use crate::leaf_trees::{fill, take_leaf_trees};
-use crate::open::{Children, Open};
+use crate::taken_trees::{fill, take_leaf_trees};
 use crate::walk::emit_below;
 use bstr::BString;
 use gixobj_files::entries::copies;
 use gixobj_files::open_entries::Entries;
 use gixobj_hash::hash::ObjectId;
+use gixobj_open::descent::MAX_RECURSIVE;
+use gixobj_open::open::{Children, Open};
 use gixobj_tree::Tree;
-use gixobj_tree::tree::Entry;
 use std::alloc::{AllocError, AllocFailed, Global};
 use std::fmt::Display;
 use std::mem;
@@ -111,20 +111,6 @@ fn emit_below_copied<E, F: FnMut(&Tree) -> Result<ObjectId, E>>(
     }
     let tree = emit_below(alloc, node, out, pairs, saved)?;
     Ok((tree, false))
-}
-
-/// Returns the entries of the tree.
-fn entries_of(tree: &Tree) -> &[Entry]
-    ensures { result.now ≡ tree.now }
-{
-    &tree.entries
-}
-
-/// Returns the entries of the directory's base.
-pub(crate) fn base_of(node: &Open) -> &[Entry]
-    ensures { bases_of node.now [] ≡ Some result.now }
-{
-    entries_of(&node.base)
 }
 
 /// Emits a tree, and appends it with its id to the pairs.

@@ -26,9 +26,9 @@ use Rattle.gixobj_files.proofs.StillOpenedOpenings.{is_opened_of_opens, opens_ke
 use Rattle.gixobj_files.proofs.UnopenedCounts.{IsIdle, requested_count}
 use Rattle.gixobj_files.proofs.UpsertedFiles.{IsReady, upserted_dirs_files}
 use Rattle.gixobj_directories.specs.Calls.{AreNames}
-use Rattle.gixobj_directories.specs.Nested.{Opened, base_side, bases_of, dirs_of, entries_side, side_list}
+use Rattle.gixobj_open.specs.Nested.{Opened, base_side, bases_of, dirs_of, entries_side, side_list}
 use Rattle.gixobj_directories.specs.Openings.{EndsBefore, IsOpenErrorAt}
-use Rattle.gixobj_directories.proofs.BaseSteps.{editing as when_edited, base_none_where_unopened, opening as when_opened, unmoved}
+use Rattle.gixobj_open.proofs.BaseSteps.{editing as when_edited, base_none_where_unopened, opening as when_opened, unmoved}
 use Rattle.gixobj_directories.specs.declared.opening.NotLookedUp.{NotLookedUp}
 use Rattle.gixobj_directories.specs.declared.opening.NotLookedUp.TheVariants as not_looked_up
 use Rattle.gixobj_files.specs.Bases.{AreOpenedOn, base_edited, base_opened, edited_bases, opened_bases}

@@ -5,7 +5,7 @@ use Rattle.std.proofs.lemmas.List.Elements.{recursion_from_All}
 use Rattle.std.specs.List.{AllByRecursion}
 use Rattle.gixobj_store.specs.Stores.{Objects}
 use Rattle.gixobj_directories.specs.Calls.{AreNames}
-use Rattle.gixobj_directories.specs.Nested.{Opened, dirs_of}
+use Rattle.gixobj_open.specs.Nested.{Opened, dirs_of}
 use Rattle.gixobj_directories.specs.Openings.{IsOpenErrorAt}
 use Rattle.gixobj_directories.specs.declared.opening.Error as directory
 use Rattle.gixobj_directories.specs.declared.opening.Error.TheVariants as opening

@@ -1,6 +1,6 @@
 -- The entry at a path from a directory is that at the path from the root.
 use Rattle.std.proofs.Common.{◌≡◌, ◌∙◌, [], ◌∷◌, ◌++◌, None, refl, sym, ap}
-use Rattle.gixobj_directories.proofs.Steps.{entry_at_none}
+use Rattle.gixobj_open.proofs.Steps.{entry_at_none}
 use Rattle.gixobj_files.specs.Edits.{entry_at}
 use Rattle.gixobj_files.specs.Files.{Path}
 use Rattle.gixobj_files.specs.Opening.{Dirs, in_path}

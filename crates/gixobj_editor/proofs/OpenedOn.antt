@@ -9,9 +9,9 @@ use Rattle.gixobj_hash.specs.declared.hash.kind.Kind.{Kind}
 use Rattle.gixobj_hash.specs.declared.hash.kind.Kind.TheVariants as hash
 use Rattle.gixobj_hash.specs.declared.hash.object_id.ObjectId.{ObjectId}
 use Rattle.gixobj_directories.specs.Calls.{AreNames, IsStorable}
-use Rattle.gixobj_directories.specs.Nested.{Opened, bases_of, dirs_of, opened}
-use Rattle.gixobj_directories.proofs.BaseSteps.{base_none_where_unopened}
-use Rattle.gixobj_directories.proofs.OpeningSteps.{dirs_of_childless}
+use Rattle.gixobj_open.specs.Nested.{Opened, bases_of, dirs_of, opened}
+use Rattle.gixobj_open.proofs.BaseSteps.{base_none_where_unopened}
+use Rattle.gixobj_open.proofs.Steps.{dirs_of_childless}
 use Rattle.gixobj_files.specs.Bases.{base_edited, edited_bases, opened_bases}
 use Rattle.gixobj_files.specs.Edits.{IsNoTree, Opens, ensured_dirs, only_open, removed_dirs, upserted_dirs, with_path}
 use Rattle.gixobj_files.specs.Files.{Path, Trees}

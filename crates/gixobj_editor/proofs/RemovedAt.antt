@@ -4,7 +4,7 @@ use Rattle.std.proofs.Common.{◌≡◌, ◌∙◌, inl, inr, ℕ, List, [], ◌
 use Rattle.gixobj_tree.specs.Entries.{EntryView}
 use Rattle.gixobj_hash.specs.declared.hash.kind.Kind.{Kind}
 use Rattle.gixobj_hash.specs.declared.hash.object_id.ObjectId.{ObjectId}
-use Rattle.gixobj_directories.specs.Nested.{Opened, dirs_of}
+use Rattle.gixobj_open.specs.Nested.{Opened, dirs_of}
 use Rattle.gixobj_files.specs.Edits.{IsNotLookedUp, Opens, arrived, counted, down, entry_at, found, removed_dirs, stops, raised}
 use Rattle.gixobj_files.specs.Files.{Path, Removed, SameFiles, Table, Trees}
 use Rattle.gixobj_files.specs.OpeningStops.{IsUnopenedAbove}

@@ -2,8 +2,8 @@
 use Rattle.std.proofs.Common.{◌≡◌, ℕ, List, [], sym, subst}
 use Rattle.gixobj_tree.specs.Entries.{EntryView}
 use Rattle.gixobj_tree.specs.WellFormed.{IsWellFormed}
-use Rattle.gixobj_directories.specs.Nested.{Opened, dirs_of, opened}
-use Rattle.gixobj_directories.proofs.OpeningSteps.{dirs_of_childless}
+use Rattle.gixobj_open.specs.Nested.{Opened, dirs_of, opened}
+use Rattle.gixobj_open.proofs.Steps.{dirs_of_childless}
 use Rattle.gixobj_files.specs.Files.{Files, SameFiles, Table}
 use Rattle.gixobj_files.specs.Opening.{Dirs, IsOpened, OpenFiles}
 use Rattle.gixobj_files.proofs.EditedFiles.{root_alone_files}

@@ -7,7 +7,7 @@ use Rattle.bstr.specs.declared.bstring.BString.{BString}
 use Rattle.gixobj_tree.specs.WellFormed.{IsEntryName}
 use Rattle.gixobj_files.specs.Files.{Path}
 use Rattle.gixobj_directories.specs.Calls.{AreNames, names_of}
-use Rattle.gixobj_directories.proofs.Descents.{names_of_take_more}
+use Rattle.gixobj_open.proofs.Descents.{names_of_take_more}
 use Rattle.gixobj_directories.proofs.OpeningDescents.{names_of_middle}
 use Rattle.gixobj_editor.specs.Upserts.{IsEntryNameError, IsFirstNameError}
 use Rattle.gixobj_editor.specs.declared.editor.error.Error.{Error}

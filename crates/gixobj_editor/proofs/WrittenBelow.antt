@@ -5,7 +5,7 @@ use Rattle.std.specs.Prelude.{IfOk, OnErr}
 use Rattle.std.specs.List.{FoldsTo}
 use Rattle.std.proofs.lemmas.List.Elements.{All-from_recursion}
 use Rattle.gixobj_directories.specs.Calls.{IsStorable}
-use Rattle.gixobj_directories.specs.Nested.{Opened, bases_of, dirs_of}
+use Rattle.gixobj_open.specs.Nested.{Opened, bases_of, dirs_of}
 use Rattle.gixobj_directories.proofs.StorablePairs.{emits_below_storable}
 use Rattle.gixobj_files.specs.Edits.{only_open, with_path}
 use Rattle.gixobj_files.specs.Files.{Path, SameFiles}

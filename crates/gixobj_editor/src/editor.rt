@@ -30,12 +30,12 @@ mod removal;
 use bstr::BString;
 pub use cursor::Cursor;
 pub use error::Error;
-use gixobj_directories::open::Open;
-use gixobj_directories::opening::NotLookedUp;
+use gixobj_directories::opening::{NotLookedUp, open_along};
 use gixobj_directories::write::write_all;
 pub use gixobj_directories::write::{WriteError, Written};
 use gixobj_hash::OutOfMemory;
 use gixobj_hash::hash::{self, ObjectId};
+use gixobj_open::open::Open;
 use gixobj_store::Find;
 use gixobj_tree::Tree;
 use gixobj_tree::tree::{Entry, EntryKind};
@@ -63,7 +63,7 @@ pub struct Editor<S> {
 impl<S> Model for Editor<S> {
     ghost use Rattle.std.specs.FinMap as map;
     ghost use Rattle.gixobj_directories.specs.Calls.{names_of};
-    ghost use Rattle.gixobj_directories.specs.Nested.{base_side, bases_of, dirs_of, entries_side, side_list};
+    ghost use Rattle.gixobj_open.specs.Nested.{base_side, bases_of, dirs_of, entries_side, side_list};
     ghost use Rattle.gixobj_files.specs.Bases.{AreOpenedOn};
     ghost use Rattle.gixobj_files.specs.State.{State};
     ghost use Rattle.gixobj_files.specs.State.Codes.{state_code};
@@ -280,8 +280,9 @@ impl<S: Find> Editor<S> {
             return Ok(());
         };
         let null = ObjectId::null(self.object_hash);
-        self.root.open_along(
+        open_along(
             alloc,
+            &mut self.root,
             directory,
             NotLookedUp::Opened,
             &self.store,

@@ -23,7 +23,7 @@ ghost use Rattle.gixobj_mode.specs.Mode.{mode_of_kind};
 use super::names::{copy_names, join_paths, validate_names};
 use super::{Editor, Error, WriteError, Written};
 use bstr::BString;
-use gixobj_directories::opening::NotLookedUp;
+use gixobj_directories::opening::{NotLookedUp, open_along};
 use gixobj_directories::write::write_at;
 use gixobj_hash::OutOfMemory;
 use gixobj_hash::hash::ObjectId;
@@ -166,8 +166,9 @@ impl<S: Find> Editor<S> {
         let alloc = *self.prefix.allocator();
         validate_names(path)?;
         let null = ObjectId::null(self.object_hash);
-        self.root.open_along(
+        open_along(
             alloc,
+            &mut self.root,
             path,
             NotLookedUp::Opened,
             &self.store,

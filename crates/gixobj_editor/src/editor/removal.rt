@@ -5,7 +5,7 @@ ghost use Rattle.gixobj_files.specs.Edits.{Opens, counted, entry_at};
 ghost use Rattle.gixobj_files.specs.Files.{Path};
 ghost use Rattle.gixobj_files.specs.Opening.{IsOpened};
 ghost use Rattle.gixobj_directories.specs.Calls.{AreNames, names_of};
-ghost use Rattle.gixobj_directories.specs.Nested.{bases_of, dirs_of};
+ghost use Rattle.gixobj_open.specs.Nested.{bases_of, dirs_of};
 ghost use Rattle.gixobj_files.specs.Bases.{opened_bases};
 ghost use Rattle.gixobj_directories.specs.Openings.{EndsBefore, OfTrees};
 ghost use Rattle.gixobj_hash.specs.declared.hash.object_id.ObjectId.{ObjectId};
@@ -20,8 +20,8 @@ ghost use Rattle.gixobj_editor.specs.Removals.{ValidatesUpTo, IsLeafDirectoryErr
 use crate::editor::error::Error;
 use crate::editor::names::{split_at_first_invalid, validate_names};
 use bstr::BString;
-use gixobj_directories::open::Open;
-use gixobj_directories::opening::NotLookedUp;
+use gixobj_directories::opening::{NotLookedUp, open_along};
+use gixobj_open::open::Open;
 use gixobj_store::Find;
 use std::alloc::{AllocError, Global};
 
@@ -53,7 +53,7 @@ pub(crate) fn open_for_removal<S: Find>(
         ≡ opened_bases (dirs_of root.old) (dirs_of root.new) (bases_of root.old) at }
 {
     let (directory, rejected) = split_at_first_invalid(path);
-    root.open_along(alloc, directory, not_looked_up, store, lookups)?;
+    open_along(alloc, root, directory, not_looked_up, store, lookups)?;
     check_reached(root, directory, rejected)
 }
 

@@ -1,7 +1,7 @@
 use Rattle.std.proofs.Common.{refl}
-use Rattle.gixobj_directories.specs.Nested.{child_list, parts}
+use Rattle.gixobj_open.specs.Nested.{child_list, parts}
 use Rattle.gixobj_directories.proofs.BegunFrames.{has_come_first, weight_first}
-use Rattle.gixobj_directories.proofs.Levels.{dirs_of_nil}
+use Rattle.gixobj_open.proofs.Levels.{dirs_of_nil}
 use Rattle.gixobj_directories.proofs.frames.begin.Goals as goal
 
 pub returns-clause-root : goal.returns-clause-root

@@ -1,6 +1,6 @@
 use Rattle.std.proofs.Common.{◌≡◌, ◌++◌, drop, take}
 use Rattle.gixobj_directories.specs.Moves.{moved_on, moved_out}
-use Rattle.gixobj_directories.specs.Nested.{parts}
+use Rattle.gixobj_open.specs.Nested.{parts}
 use Rattle.gixobj_directories.proofs.moving.move_on_in_piece.Given as goal
 
 -- the directories so far, followed by what becomes of the others, are all

@@ -3,8 +3,8 @@ use Rattle.std.specs.declared.alloc.Global.{Global}
 use Rattle.std.specs.declared.vec.Vec.{Vec}
 use Rattle.std.proofs.lemmas.List.{with_items_is}
 use Rattle.gixobj_directories.specs.Moves.{moved_on, moved_out}
-use Rattle.gixobj_directories.specs.Nested.{parts}
-use Rattle.gixobj_directories.specs.declared.open.Child.{Child}
+use Rattle.gixobj_open.specs.Nested.{parts}
+use Rattle.gixobj_open.specs.declared.open.Child.{Child}
 use Rattle.gixobj_directories.proofs.Moves.{moved_on_more, moved_out_more, non_empty_more}
 use Rattle.gixobj_directories.proofs.moving.move_on_in_pieces.Goals as goal
 

@@ -4,8 +4,8 @@ use Rattle.std.specs.declared.alloc.Global.{Global}
 use Rattle.std.specs.declared.vec.Vec.{Vec}
 use Rattle.gixobj_sorted.specs.Pieces.{AreNonEmpty}
 use Rattle.gixobj_directories.specs.Moves.{moved_on, moved_out}
-use Rattle.gixobj_directories.specs.Nested.{parts}
-use Rattle.gixobj_directories.specs.declared.open.Child.{Child}
+use Rattle.gixobj_open.specs.Nested.{parts}
+use Rattle.gixobj_open.specs.declared.open.Child.{Child}
 use Rattle.gixobj_directories.proofs.moving.move_on_in_pieces.Given as goal
 
 -- the directories so far, followed by what becomes of the others, are all

@@ -5,13 +5,13 @@ use Rattle.std.proofs.lemmas.List.{drop_all}
 use Rattle.gixobj_tree.specs.Entries.{EntryView}
 use Rattle.gixobj_files.specs.Emission.{entry_unless_null}
 use Rattle.gixobj_directories.specs.Frames.{EmitsNext, HasCome, Waits, held_entries}
-use Rattle.gixobj_directories.specs.LeafTrees.{child_leaf_trees}
-use Rattle.gixobj_directories.specs.Nested.{base_side, entries_side}
+use Rattle.gixobj_directories.specs.TakenTrees.{child_leaf_trees}
+use Rattle.gixobj_open.specs.Nested.{base_side, entries_side}
 use Rattle.gixobj_directories.specs.WriteErrors.{EmitsEntry, IsWriteError, child_side}
 use Rattle.gixobj_directories.specs.declared.frames.Frame.{Frame}
 use Rattle.gixobj_directories.proofs.Emitting.{if_err_weaken, stopped_after_folds, stopped_at_call}
 use Rattle.gixobj_directories.proofs.BegunFrames.{emits_next_of_entry, has_come_passed, lighter_begun, lighter_passed, waits_for_child}
-use Rattle.gixobj_directories.proofs.LeafTrees.{adds_nil}
+use Rattle.gixobj_directories.proofs.TakenTrees.{adds_nil}
 use Rattle.gixobj_directories.proofs.walk.advance.Goals as goal
 
 pub returns-then-frame-entries-clause-emitted : goal.returns-then-frame-entries-clause-emitted

@@ -5,12 +5,13 @@ use Rattle.std.specs.Fn.{CalledAt}
 use Rattle.gixobj_files.specs.Emission.{EmitsBelow}
 use Rattle.gixobj_directories.specs.Calls.{IsStorable}
 use Rattle.gixobj_directories.specs.Frames.{HasCome, frame_weight}
-use Rattle.gixobj_directories.specs.Nested.{bases_of, dirs_of}
+use Rattle.gixobj_open.specs.Nested.{bases_of, dirs_of}
 use Rattle.gixobj_directories.specs.WriteErrors.{IsWriteError}
 use Rattle.gixobj_directories.specs.declared.frames.Frame.{Frame}
 use Rattle.gixobj_directories.proofs.Emitting.{callable_after_folds, if_err_weaken, stopped_at_call}
 use Rattle.gixobj_directories.proofs.BegunFrames.{storable_of_ended}
-use Rattle.gixobj_directories.proofs.WaitingFrames.{EmitsAt, adds_of_ended, called_of_ended, counted_of_ended, emits_at_exists, emits_of_ended, frames_weight, frames_weight_pop, memory_before_begun, memory_of_ended, nil_of_len, reverse_push, stopped_in_resume, stopped_in_step, under_way_begun, under_way_ended, under_way_first, under_way_of_equal, under_way_passed, under_way_resumed, waits_of_parent}
+use Rattle.gixobj_directories.proofs.WaitingFrames.{EmitsAt, adds_of_ended, called_of_ended, counted_of_ended, emits_at_exists, emits_of_ended, frames_weight, frames_weight_pop, memory_before_begun, memory_of_ended, reverse_push, stopped_in_resume, stopped_in_step, under_way_begun, under_way_ended, under_way_first, under_way_of_equal, under_way_passed, under_way_resumed, waits_of_parent}
+use Rattle.gixobj_open.proofs.Ends.{nil_of_length}
 use Rattle.gixobj_directories.proofs.walk.emit_below.Goals as goal
 
 pub returns-in_err-frame-clause-error : goal.returns-in_err-frame-clause-error
@@ -100,7 +101,7 @@ returns-in_err-tree-in-Ends-clause-error g c =
     let so = c.frames.invariant.so in
     let ok = (rw c.in-Ends.is at (c.in_ok-advance.ensures {u = tt}).emitted) in
     let come = ok.4 so.qs so.us so.n so.come in
-    let none : c.frames.above.items ≡ [] = nil_of_len c.frames.above.items (omega (arith, (c.in_default.ensures {u = tt}).cases.0, c.frames.above.ok.0)) in
+    let none : c.frames.above.items ≡ [] = nil_of_length c.frames.above.items (omega (arith, (c.in_default.ensures {u = tt}).cases.0, c.frames.above.ok.0)) in
     let way = under_way_ended so c.advance.new.out c.advance.new.pairs.items c.advance.new.frame c.advance.ensures.node ok.0 ok.1 ok.2 ok.3 ok.4 in
     let all = under_way_of_equal (ap reverse none) way in
     if_err_weaken c.from_residual-in_err-tree-in-Ends.result _ _ c.from_residual-in_err-tree-in-Ends.ensures.1
@@ -111,7 +112,7 @@ returns-in_default-clause-emitted g c =
     let so = c.frames.invariant.so in
     let ok = (rw c.in-Ends.is at (c.in_ok-advance.ensures {u = tt}).emitted) in
     let come = ok.4 so.qs so.us so.n so.come in
-    let none : c.frames.above.items ≡ [] = nil_of_len c.frames.above.items (omega (arith, (c.in_default.ensures {u = tt}).cases.0, c.frames.above.ok.0)) in
+    let none : c.frames.above.items ≡ [] = nil_of_length c.frames.above.items (omega (arith, (c.in_default.ensures {u = tt}).cases.0, c.frames.above.ok.0)) in
     let way = under_way_ended so c.advance.new.out c.advance.new.pairs.items c.advance.new.frame c.advance.ensures.node ok.0 ok.1 ok.2 ok.3 ok.4 in
     let all = under_way_of_equal (ap reverse none) way in
     let root = c.args.node.now in
@@ -129,7 +130,7 @@ returns-in_default-clause-storable g c =
     let so = c.frames.invariant.so in
     let ok = (rw c.in-Ends.is at (c.in_ok-advance.ensures {u = tt}).emitted) in
     let come = ok.4 so.qs so.us so.n so.come in
-    let none : c.frames.above.items ≡ [] = nil_of_len c.frames.above.items (omega (arith, (c.in_default.ensures {u = tt}).cases.0, c.frames.above.ok.0)) in
+    let none : c.frames.above.items ≡ [] = nil_of_length c.frames.above.items (omega (arith, (c.in_default.ensures {u = tt}).cases.0, c.frames.above.ok.0)) in
     let way = under_way_ended so c.advance.new.out c.advance.new.pairs.items c.advance.new.frame c.advance.ensures.node ok.0 ok.1 ok.2 ok.3 ok.4 in
     let all = under_way_of_equal (ap reverse none) way in
     subst IsStorable (sym (c.in_ok-tree-in-Ends.ensures {u = tt}).tree) (storable_of_ended c.advance.new.frame come.1 all.qs all.us all.n all.come)

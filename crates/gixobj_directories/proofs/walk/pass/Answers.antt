@@ -7,12 +7,12 @@ use Rattle.gixobj_hash.specs.declared.hash.object_id.ObjectId.{ObjectId}
 use Rattle.gixobj_files.specs.Emission.{EmitsBelow, entry_unless_null, of_entries}
 use Rattle.gixobj_files.specs.Opening.{Dirs}
 use Rattle.gixobj_directories.specs.Frames.{child_weight}
-use Rattle.gixobj_directories.specs.LeafTrees.{Adds, child_leaf_trees}
-use Rattle.gixobj_directories.specs.Nested.{base_side, bases_of, dirs_of, entries_side}
+use Rattle.gixobj_directories.specs.TakenTrees.{Adds, child_leaf_trees}
+use Rattle.gixobj_open.specs.Nested.{base_side, bases_of, dirs_of, entries_side}
 use Rattle.gixobj_directories.specs.WriteErrors.{IsWriteError, EmitsEntry, child_side}
-use Rattle.gixobj_directories.specs.declared.open.Child.{Child}
+use Rattle.gixobj_open.specs.declared.open.Child.{Child}
 use Rattle.gixobj_directories.proofs.Emitting.{emits_below_of_both, emits_entry_open, emits_entry_unopened, emits_entry_written, folds_to_one, if_err_weaken, side_of_open_child, stopped_after_folds, stopped_at_call, walk_exists_of_open}
-use Rattle.gixobj_directories.proofs.LeafTrees.{adds_blank_tree, adds_leaf_trees_of_child, adds_nil, leaf_tree_has_base_or_is_emitted, some_unique}
+use Rattle.gixobj_directories.proofs.TakenTrees.{adds_blank_tree, adds_leaf_trees_of_child, adds_nil, leaf_tree_has_base_or_is_emitted, some_unique}
 use Rattle.gixobj_directories.proofs.walk.pass.Goals as goal
 
 pub returns-in_default-clause-emitted : goal.returns-in_default-clause-emitted

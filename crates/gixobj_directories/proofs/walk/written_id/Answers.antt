@@ -8,7 +8,7 @@ use Rattle.gixobj_directories.specs.Calls.{IsStorable}
 use Rattle.gixobj_directories.specs.Frames.{EmitsOwn}
 use Rattle.gixobj_directories.specs.WriteErrors.{IsWriteError}
 use Rattle.gixobj_directories.proofs.Emitting.{folds_to_one, if_err_weaken, nil_of_is_empty, not_nil_of_not_empty, stopped_after_folds, stopped_at_call}
-use Rattle.gixobj_directories.proofs.LeafTrees.{adds_nil, adds_pair}
+use Rattle.gixobj_directories.proofs.TakenTrees.{adds_nil, adds_pair}
 use Rattle.gixobj_directories.proofs.OwnTrees.{emits_own_empty, emits_own_unchanged, emits_own_written}
 use Rattle.gixobj_directories.proofs.walk.written_id.Goals as goal
 

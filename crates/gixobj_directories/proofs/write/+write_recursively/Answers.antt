@@ -9,15 +9,15 @@ use Rattle.gixobj_files.specs.Files.{Path}
 use Rattle.gixobj_files.specs.Emission.{Saves}
 use Rattle.gixobj_files.specs.Opening.{Dirs, in_path}
 use Rattle.gixobj_directories.specs.Calls.{names_of}
-use Rattle.gixobj_directories.specs.Nested.{Opened, Part, bases_of, child_list, dirs_of, in_part, opened, parts}
+use Rattle.gixobj_open.specs.Nested.{Opened, Part, bases_of, child_list, dirs_of, in_part, opened, parts}
 use Rattle.gixobj_directories.proofs.Emitting.{emits_below_of_both, stopped_of_same_dirs}
-use Rattle.gixobj_directories.proofs.Levels.{in_part_of_child, is_level_set, becomes_of_set}
-use Rattle.gixobj_directories.proofs.OpeningSteps.{names_of_nil, dirs_of_childless}
-use Rattle.gixobj_directories.proofs.Pieces.{IsFound, is_changed, is_child, is_pieced_level_with_open, parts_with_open_same}
-use Rattle.gixobj_directories.proofs.Steps.{path_based, path_down, place_down, place_unopened, written_deeper}
+use Rattle.gixobj_open.proofs.Levels.{in_part_of_child, is_level_set, becomes_of_set}
+use Rattle.gixobj_open.proofs.Steps.{names_of_nil, dirs_of_childless}
+use Rattle.gixobj_open.proofs.Pieces.{IsFound, is_changed, is_child, is_pieced_level_with_open, parts_with_open_same}
+use Rattle.gixobj_open.proofs.Steps.{path_based, path_down, place_down, place_unopened, written_deeper}
 use Rattle.gixobj_files.specs.Bases.{base_edited}
-use Rattle.gixobj_directories.proofs.BaseSteps.{editing, set_moved}
-use Rattle.gixobj_directories.proofs.Ordered.{level_names_apart}
+use Rattle.gixobj_open.proofs.BaseSteps.{editing, set_moved}
+use Rattle.gixobj_open.proofs.Ordered.{level_names_apart}
 use Rattle.gixobj_directories.proofs.write.+write_recursively.Goals as goal
 
 pub returns-in_default-clause-written : goal.returns-in_default-clause-written

@@ -3,11 +3,12 @@ use Rattle.std.specs.Fn.{CalledAt}
 use Rattle.gixobj_tree.specs.Entries.{EntryView}
 use Rattle.gixobj_directories.specs.Calls.{IsStorable}
 use Rattle.gixobj_files.specs.Emission.{EmitsBelow, of_entries}
-use Rattle.gixobj_directories.specs.Nested.{Opened, bases_of, dirs_of}
-use Rattle.gixobj_directories.specs.LeafTrees.{Adds, inside_of, leaf_trees}
+use Rattle.gixobj_open.specs.Nested.{Opened, bases_of, dirs_of}
+use Rattle.gixobj_directories.specs.TakenTrees.{Adds}
+use Rattle.gixobj_open.specs.LeafTrees.{inside_of, leaf_trees}
 use Rattle.gixobj_directories.proofs.Emitting.{if_err_weaken, stopped_at_call, walk_exists_of_open}
-use Rattle.gixobj_directories.proofs.Levels.{dirs_of_nil}
-use Rattle.gixobj_directories.proofs.LeafTrees.{adds_nil, leaf_tree_has_base_or_is_emitted}
+use Rattle.gixobj_open.proofs.Levels.{dirs_of_nil}
+use Rattle.gixobj_directories.proofs.TakenTrees.{adds_nil, leaf_tree_has_base_or_is_emitted}
 use Rattle.gixobj_directories.proofs.write.emit_below_copied.Goals as goal
 
 pub returns-in_err-entries-clause-error : goal.returns-in_err-entries-clause-error

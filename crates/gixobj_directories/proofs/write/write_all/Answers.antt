@@ -2,7 +2,7 @@ use Rattle.std.proofs.Common.{◌≡◌, subst}
 use Rattle.std.specs.Prelude.{OnOk}
 use Rattle.gixobj_files.specs.Bases.{edited_bases}
 use Rattle.gixobj_files.specs.Files.{Path}
-use Rattle.gixobj_directories.specs.Nested.{Opened, bases_of, dirs_of}
+use Rattle.gixobj_open.specs.Nested.{Opened, bases_of, dirs_of}
 use Rattle.gixobj_directories.proofs.write.write_all.Goals as goal
 
 pub returns-clause-bases : goal.returns-clause-bases

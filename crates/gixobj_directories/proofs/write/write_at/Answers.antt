@@ -6,9 +6,9 @@ use Rattle.gixobj_files.specs.Bases.{base_edited}
 use Rattle.gixobj_files.specs.Edits.{only_open}
 use Rattle.gixobj_files.specs.Opening.{in_path}
 use Rattle.gixobj_directories.specs.Calls.{names_of}
-use Rattle.gixobj_directories.specs.Nested.{base_side, bases_of, dirs_of, entries_side}
-use Rattle.gixobj_directories.proofs.BaseSteps.{editing}
-use Rattle.gixobj_directories.proofs.Descents.{ascent_unchanged, at_path_of_descent, bases_of_ascent, place_of_descent, written_of_ascent}
+use Rattle.gixobj_open.specs.Nested.{base_side, bases_of, dirs_of, entries_side}
+use Rattle.gixobj_open.proofs.BaseSteps.{editing}
+use Rattle.gixobj_open.proofs.Descents.{ascent_unchanged, at_path_of_descent, bases_of_ascent, place_of_descent, written_of_ascent}
 use Rattle.gixobj_directories.proofs.Emitting.{emits_below_of_both, stopped_of_same_dirs}
 use Rattle.gixobj_directories.proofs.write.write_at.Goals as goal
 

@@ -8,19 +8,20 @@ use Rattle.gixobj_hash.specs.declared.hash.object_id.ObjectId.{ObjectId}
 use Rattle.gixobj_directories.specs.WriteErrors.{IsWriteError}
 use Rattle.gixobj_files.specs.Edits.{raised}
 use Rattle.gixobj_files.specs.Emission.{EmitsSome, EmitsBelow}
-use Rattle.gixobj_directories.specs.Nested.{Opened, bases_of, below, child_list, dirs_of, opened, parts}
+use Rattle.gixobj_open.specs.Nested.{Opened, bases_of, below, child_list, dirs_of, opened, parts}
 use Rattle.gixobj_directories.proofs.Emitting.{folds_to_append, folds_to_one, callable_after_folds, if_err_weaken, emits_some_append, stopped_after_folds, stopped_at_call}
 use Rattle.std.specs.Prelude.{reverse}
 use Rattle.std.proofs.lemmas.List.{reverse-reverse, with_items_is}
-use Rattle.gixobj_directories.specs.LeafTrees.{Fills, inside_of, leaf_trees}
+use Rattle.gixobj_directories.specs.TakenTrees.{Fills}
+use Rattle.gixobj_open.specs.LeafTrees.{inside_of, leaf_trees}
 use Rattle.gixobj_files.specs.Bases.{base_edited}
-use Rattle.gixobj_directories.specs.declared.open.Child.{Child}
-use Rattle.gixobj_directories.specs.declared.open.Children.{Children}
-use Rattle.gixobj_directories.proofs.BaseSteps.{base_edited_of_written}
-use Rattle.gixobj_directories.proofs.Levels.{bases_of_nil, dirs_of_nil}
-use Rattle.gixobj_directories.proofs.Ordered.{level_names_apart}
+use Rattle.gixobj_open.specs.declared.open.Child.{Child}
+use Rattle.gixobj_open.specs.declared.open.Children.{Children}
+use Rattle.gixobj_open.proofs.BaseSteps.{base_edited_of_written}
+use Rattle.gixobj_open.proofs.Levels.{bases_of_nil, dirs_of_nil}
+use Rattle.gixobj_open.proofs.Ordered.{level_names_apart}
 use Rattle.gixobj_files.proofs.FilteredEntries.{is_filtered_tree_of_walk}
-use Rattle.gixobj_directories.proofs.LeafTrees.{leaf_trees_len_le, some_unique}
+use Rattle.gixobj_directories.proofs.TakenTrees.{leaf_trees_len_le, some_unique}
 use Rattle.gixobj_directories.proofs.write.write_settled.Goals as goal
 
 pub returns-in_err-own-clause-error : goal.returns-in_err-own-clause-error

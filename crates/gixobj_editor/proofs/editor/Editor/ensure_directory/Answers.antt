@@ -7,7 +7,7 @@ use Rattle.gixobj_files.specs.Edits.{IsNoTree, Opens, ensured_dirs}
 use Rattle.gixobj_files.specs.State.{State, open_dirs}
 use Rattle.gixobj_files.specs.Unopened.{in_directory}
 use Rattle.gixobj_directories.specs.Calls.{names_of}
-use Rattle.gixobj_directories.specs.Nested.{Opened, dirs_of}
+use Rattle.gixobj_open.specs.Nested.{Opened, dirs_of}
 use Rattle.gixobj_directories.specs.Openings.{AreTreesOf, IsOpenErrorAt}
 use Rattle.gixobj_directories.proofs.Emitting.{if_err_weaken}
 use Rattle.gixobj_store.specs.Stores.{StoreModel}
@@ -46,11 +46,11 @@ returns-in_err-open_along-clause-after_error g c =
     let path = names_of c.args.path.now in
     let stored = ap (λ (o : State _). o.store) c.self.view_is in
     let bad = (c.in_err-open_along.ensures {u = tt}).stopped_opening trees (subst (λ o. AreTreesOf (g.S.Store.objects o) trees) (sym stored) fits) in
-    let after = halted_so s.store s.object_hash (names_of s.prefix.items) trees model s.root c.open_along.new.self s.lookups c.open_along.new.lookups
+    let after = halted_so s.store s.object_hash (names_of s.prefix.items) trees model s.root c.open_along.new.node s.lookups c.open_along.new.lookups
     c.args.self.now c.self.view_is (in_directory path) path [] refl bad.0 bad.1 bad.2 bad.3 c.in_err-open_along.field-0.0 bad.4 c.self.invariant
     c.open_along.ensures.bases in
     subst (λ (e : Error). IsAfterFailedEdit model trees c.args.self.now (in_directory path) e
-    (state_of s.store s.object_hash (names_of s.prefix.items) c.open_along.new.self c.open_along.new.lookups)) (sym gives) after)
+    (state_of s.store s.object_hash (names_of s.prefix.items) c.open_along.new.node c.open_along.new.lookups)) (sym gives) after)
 
 pub returns-in_err-open_along-clause-error : goal.returns-in_err-open_along-clause-error
 returns-in_err-open_along-clause-error g c =
@@ -62,7 +62,7 @@ returns-in_err-open_along-clause-error g c =
     subst (IsCursorError (g.S.Store.objects c.args.self.now.store) (g.S.Store.may_fail c.args.self.now.store) trees (open_dirs c.args.self.now) path)
     (sym gives)
     (rejects_at s.store s.object_hash (names_of s.prefix.items) trees (g.S.Store.objects c.args.self.now.store)
-    (g.S.Store.may_fail c.args.self.now.store) s.root c.open_along.new.self s.lookups c.args.self.now c.self.view_is path
+    (g.S.Store.may_fail c.args.self.now.store) s.root c.open_along.new.node s.lookups c.args.self.now c.self.view_is path
     (c.in_ok-validate_names.ensures {u = tt}).accepted c.self.invariant.opened
     bad.0 bad.1 bad.2 c.in_err-open_along.field-0.0
     (subst (λ o. IsOpenErrorAt (g.S.Store.objects o) (g.S.Store.may_fail o) bad.1 c.in_err-open_along.field-0.0) stored bad.4)))
@@ -76,7 +76,7 @@ returns-in_err-prefix-clause-after_error g c =
     let stored = ap (λ (o : State _). o.store) c.self.view_is in
     let ok = (c.in_ok-open_along.ensures {u = tt}).opened trees (subst (λ o. AreTreesOf (g.S.Store.objects o) trees) (sym stored) fits) in
     opened_so s.store s.object_hash (names_of s.prefix.items) trees (record { objects = g.S.Store.objects; may_fail = g.S.Store.may_fail })
-    not_looked_up.Opened s.root c.open_along.new.self s.lookups c.open_along.new.lookups c.args.self.now c.self.view_is (in_directory path) path
+    not_looked_up.Opened s.root c.open_along.new.node s.lookups c.open_along.new.lookups c.args.self.now c.self.view_is (in_directory path) path
     [] refl ok.0 ok.1 ok.2
     error (subst (λ (e : Error). ¬ IsLookupError e) (sym gives) (λ it. it)) c.self.invariant c.open_along.ensures.bases)
 
@@ -97,7 +97,7 @@ returns-in_err-ensure_directory-clause-after_error g c =
     let path = names_of c.args.path.now in
     let stored = ap (λ (o : State _). o.store) c.self.view_is in
     let ok = (c.in_ok-open_along.ensures {u = tt}).opened trees (subst (λ o. AreTreesOf (g.S.Store.objects o) trees) (sym stored) fits) in
-    let same : c.ensure_directory.new.self ≡ c.open_along.new.self = (c.in_err-ensure_directory.ensures {u = tt}).unchanged in
+    let same : c.ensure_directory.new.self ≡ c.open_along.new.node = (c.in_err-ensure_directory.ensures {u = tt}).unchanged in
     opened_so s.store s.object_hash (names_of s.prefix.items) trees (record { objects = g.S.Store.objects; may_fail = g.S.Store.may_fail })
     not_looked_up.Opened s.root c.ensure_directory.new.self s.lookups c.open_along.new.lookups c.args.self.now c.self.view_is (in_directory path) path
     [] refl ok.0
@@ -112,7 +112,7 @@ returns-in_err-ensure_directory-clause-error g c =
     subst (IsCursorError (g.S.Store.objects c.args.self.now.store) (g.S.Store.may_fail c.args.self.now.store) trees (open_dirs c.args.self.now) path)
     (sym gives) (
       (c.in_ok-validate_names.ensures {u = tt}).accepted,
-      path_not_nil path (dirs_of c.open_along.new.self)
+      path_not_nil path (dirs_of c.open_along.new.node)
           (c.open_along.ensures.still_opened c.self.invariant.opened) (c.in_err-ensure_directory.ensures {u = tt}).unopened,
     ))
 
@@ -121,22 +121,22 @@ invariant_of-self g c =
     let s = c.self.inside in
     let named = trees_of_objects_exist (g.S.Store.objects s.store) in
     let bad = (c.in_err-open_along.ensures {u = tt}).stopped_opening named.0 named.1 in
-    halted_on named.0 s.root c.open_along.new.self c.open_along.ensures.bases c.self.invariant (names_of c.args.path.now) bad.0 bad.1 bad.2
+    halted_on named.0 s.root c.open_along.new.node c.open_along.ensures.bases c.self.invariant (names_of c.args.path.now) bad.0 bad.1 bad.2
 
 pub invariant_of-self-in_err-prefix : goal.invariant_of-self-in_err-prefix
 invariant_of-self-in_err-prefix g c =
     let s = c.self.inside in
     let named = trees_of_objects_exist (g.S.Store.objects s.store) in
     let ok = (c.in_ok-open_along.ensures {u = tt}).opened named.0 named.1 in
-    opened_on named.0 s.root c.open_along.new.self c.open_along.ensures.bases c.self.invariant (names_of c.args.path.now) ok.0 ok.1
+    opened_on named.0 s.root c.open_along.new.node c.open_along.ensures.bases c.self.invariant (names_of c.args.path.now) ok.0 ok.1
 
 pub invariant_of-self-in_err-ensure_directory : goal.invariant_of-self-in_err-ensure_directory
 invariant_of-self-in_err-ensure_directory g c =
     let s = c.self.inside in
     let named = trees_of_objects_exist (g.S.Store.objects s.store) in
     let ok = (c.in_ok-open_along.ensures {u = tt}).opened named.0 named.1 in
-    let same : c.ensure_directory.new.self ≡ c.open_along.new.self = (c.in_err-ensure_directory.ensures {u = tt}).unchanged in
-    subst OpenedOn (sym same) (opened_on named.0 s.root c.open_along.new.self c.open_along.ensures.bases c.self.invariant (names_of c.args.path.now) ok.0 ok.1)
+    let same : c.ensure_directory.new.self ≡ c.open_along.new.node = (c.in_err-ensure_directory.ensures {u = tt}).unchanged in
+    subst OpenedOn (sym same) (opened_on named.0 s.root c.open_along.new.node c.open_along.ensures.bases c.self.invariant (names_of c.args.path.now) ok.0 ok.1)
 
 pub invariant_of-self-2 : goal.invariant_of-self-2
 invariant_of-self-2 g c =
@@ -144,14 +144,14 @@ invariant_of-self-2 g c =
     let path = names_of c.args.path.now in
     let named = trees_of_objects_exist (g.S.Store.objects s.store) in
     let ok = (c.in_ok-open_along.ensures {u = tt}).opened named.0 named.1 in
-    ensured_on named.0 s.root c.open_along.new.self c.open_along.ensures.bases c.self.invariant c.ensure_directory.new.self
+    ensured_on named.0 s.root c.open_along.new.node c.open_along.ensures.bases c.self.invariant c.ensure_directory.new.self
     (c.in_ok-ensure_directory.ensures {u = tt}).bases
     s.object_hash path (c.in_ok-validate_names.ensures {u = tt}).accepted ok.0 ok.1
-    (λ at. (c.in_ok-ensure_directory.ensures {u = tt}).dirs at ∙ ap (λ null. ensured_dirs path null (dirs_of c.open_along.new.self) at)
+    (λ at. (c.in_ok-ensure_directory.ensures {u = tt}).dirs at ∙ ap (λ null. ensured_dirs path null (dirs_of c.open_along.new.node) at)
     c.null-null.ensures.value)
 
 pub returns-clause-is_open : goal.returns-clause-is_open
-returns-clause-is_open g c = ensured_path_is_open (names_of c.args.path.now) c.null-null.result c.open_along.new.self c.ensure_directory.new.self
+returns-clause-is_open g c = ensured_path_is_open (names_of c.args.path.now) c.null-null.result c.open_along.new.node c.ensure_directory.new.self
     (c.in_ok-ensure_directory.ensures {u = tt}).dirs (names_of c.in_ok-prefix.prefix.items) (c.in_ok-prefix.ensures {u = tt}).names
 
 pub returns-clause-ensured : goal.returns-clause-ensured
@@ -160,9 +160,9 @@ returns-clause-ensured g c = λ trees fits.
     let path = names_of c.args.path.now in
     let stored = ap (λ (o : State _). o.store) c.self.view_is in
     let ok = (c.in_ok-open_along.ensures {u = tt}).opened trees (subst (λ o. AreTreesOf (g.S.Store.objects o) trees) (sym stored) fits) in
-    ensured_at s.store s.object_hash (names_of s.prefix.items) trees s.root c.open_along.new.self c.ensure_directory.new.self s.lookups c.open_along.new.lookups
+    ensured_at s.store s.object_hash (names_of s.prefix.items) trees s.root c.open_along.new.node c.ensure_directory.new.self s.lookups c.open_along.new.lookups
     c.args.self.now c.self.view_is path ok.0 (c.in_ok-validate_names.ensures {u = tt}).accepted ok.1
-    (λ at. (c.in_ok-ensure_directory.ensures {u = tt}).dirs at ∙ ap (λ null. ensured_dirs path null (dirs_of c.open_along.new.self) at)
+    (λ at. (c.in_ok-ensure_directory.ensures {u = tt}).dirs at ∙ ap (λ null. ensured_dirs path null (dirs_of c.open_along.new.node) at)
     c.null-null.ensures.value)
     ok.2 c.self.invariant
     c.open_along.ensures.bases (c.in_ok-ensure_directory.ensures {u = tt}).bases (names_of c.in_ok-prefix.prefix.items) (c.in_ok-prefix.ensures {u = tt}).names

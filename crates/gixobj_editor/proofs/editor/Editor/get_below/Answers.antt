@@ -1,7 +1,7 @@
 -- The directory's own entry, or none if the directory isn't open.
 use Rattle.std.proofs.Common.{◌≡◌, ◌∙◌, ap, sym}
 use Rattle.gixobj_directories.specs.Calls.{names_of}
-use Rattle.gixobj_directories.specs.Nested.{dirs_of}
+use Rattle.gixobj_open.specs.Nested.{dirs_of}
 use Rattle.gixobj_files.specs.Edits.{entry_at}
 use Rattle.gixobj_files.specs.Files.{Path}
 use Rattle.gixobj_files.specs.State.{State, open_dirs}

@@ -7,10 +7,10 @@ use Rattle.gixobj_mode.specs.Mode.{mode_of_kind}
 use Rattle.gixobj_files.specs.Edits.{IsNoTree, Opens, upserted_dirs}
 use Rattle.gixobj_files.specs.State.{State, open_dirs}
 use Rattle.gixobj_directories.specs.Calls.{names_of}
-use Rattle.gixobj_directories.specs.Nested.{Opened, dirs_of}
+use Rattle.gixobj_open.specs.Nested.{Opened, dirs_of}
 use Rattle.gixobj_directories.specs.Openings.{AreTreesOf, IsOpenErrorAt}
 use Rattle.gixobj_directories.proofs.Emitting.{if_err_weaken}
-use Rattle.gixobj_directories.proofs.OpeningSteps.{names_of_nil}
+use Rattle.gixobj_open.proofs.Steps.{names_of_nil}
 use Rattle.gixobj_store.specs.Stores.{StoreModel}
 use Rattle.gixobj_editor.specs.Upserts.{IsFirstNameError, IsUpsertError}
 use Rattle.gixobj_editor.specs.FailedEdits.{IsAfterFailedEdit, IsLookupError}
@@ -56,12 +56,12 @@ returns-in_err-open_along-clause-after_error g c =
     let is = names_of_snoc c.args.path.now c.in-Some.directory.now c.in-Some._last.now c.in-Some.ensures.cases.0 in
     let stored = ap (λ (o : State _). o.store) c.self.view_is in
     let bad = (c.in_err-open_along.ensures {u = tt}).stopped_opening trees (subst (λ o. AreTreesOf (g.S.Store.objects o) trees) (sym stored) fits) in
-    let after = halted_so s.store s.object_hash (names_of s.prefix.items) trees model s.root c.open_along.new.self s.lookups c.open_along.new.lookups
+    let after = halted_so s.store s.object_hash (names_of s.prefix.items) trees model s.root c.open_along.new.node s.lookups c.open_along.new.lookups
     c.args.self.now
     c.self.view_is (names_of c.args.path.now) (names_of c.in-Some.directory.now) (bstring_bytes c.in-Some._last.now) is bad.0 bad.1 bad.2 bad.3
     c.in_err-open_along.field-0.0 bad.4 c.self.invariant c.open_along.ensures.bases in
     subst (λ (e : Error). IsAfterFailedEdit model trees c.args.self.now (names_of c.args.path.now) e
-    (state_of s.store s.object_hash (names_of s.prefix.items) c.open_along.new.self c.open_along.new.lookups)) (sym gives) after)
+    (state_of s.store s.object_hash (names_of s.prefix.items) c.open_along.new.node c.open_along.new.lookups)) (sym gives) after)
 
 pub returns-in_err-open_along-clause-error : goal.returns-in_err-open_along-clause-error
 returns-in_err-open_along-clause-error g c =
@@ -74,7 +74,7 @@ returns-in_err-open_along-clause-error g c =
     (names_of c.args.path.now)) (sym gives)
     (fails s.store s.object_hash (names_of s.prefix.items) trees (g.S.Store.objects c.args.self.now.store)
     (g.S.Store.may_fail c.args.self.now.store) s.root
-    c.open_along.new.self s.lookups c.args.self.now c.self.view_is (names_of c.args.path.now) (names_of c.in-Some.directory.now)
+    c.open_along.new.node s.lookups c.args.self.now c.self.view_is (names_of c.args.path.now) (names_of c.in-Some.directory.now)
     (bstring_bytes c.in-Some._last.now)
     is (c.in_ok-validate_names.ensures {u = tt}).accepted bad.0 bad.1 bad.2 c.in_err-open_along.field-0.0
     (subst (λ o. IsOpenErrorAt (g.S.Store.objects o) (g.S.Store.may_fail o) bad.1 c.in_err-open_along.field-0.0) stored bad.4)))
@@ -89,7 +89,7 @@ returns-in_err-insert_entry-clause-after_error g c =
     let is = names_of_snoc c.args.path.now c.in-Some.directory.now c.in-Some._last.now c.in-Some.ensures.cases.0 in
     let stored = ap (λ (o : State _). o.store) c.self.view_is in
     let ok = (c.in_ok-open_along.ensures {u = tt}).opened trees (subst (λ o. AreTreesOf (g.S.Store.objects o) trees) (sym stored) fits) in
-    let same : c.insert_entry.new.self ≡ c.open_along.new.self = (c.in_err-insert_entry.ensures {u = tt}).unchanged in
+    let same : c.insert_entry.new.self ≡ c.open_along.new.node = (c.in_err-insert_entry.ensures {u = tt}).unchanged in
     opened_so s.store s.object_hash (names_of s.prefix.items) trees (record { objects = g.S.Store.objects; may_fail = g.S.Store.may_fail })
     not_looked_up.Opened s.root c.insert_entry.new.self s.lookups c.open_along.new.lookups
     c.args.self.now c.self.view_is (names_of c.args.path.now) (names_of c.in-Some.directory.now) (bstring_bytes c.in-Some._last.now) is ok.0
@@ -102,15 +102,15 @@ invariant_of-self g c =
     let s = c.self.inside in
     let named = trees_of_objects_exist (g.S.Store.objects s.store) in
     let bad = (c.in_err-open_along.ensures {u = tt}).stopped_opening named.0 named.1 in
-    halted_on named.0 s.root c.open_along.new.self c.open_along.ensures.bases c.self.invariant (names_of c.in-Some.directory.now) bad.0 bad.1 bad.2
+    halted_on named.0 s.root c.open_along.new.node c.open_along.ensures.bases c.self.invariant (names_of c.in-Some.directory.now) bad.0 bad.1 bad.2
 
 pub invariant_of-self-in_err-insert_entry : goal.invariant_of-self-in_err-insert_entry
 invariant_of-self-in_err-insert_entry g c =
     let s = c.self.inside in
     let named = trees_of_objects_exist (g.S.Store.objects s.store) in
     let ok = (c.in_ok-open_along.ensures {u = tt}).opened named.0 named.1 in
-    let same : c.insert_entry.new.self ≡ c.open_along.new.self = (c.in_err-insert_entry.ensures {u = tt}).unchanged in
-    subst OpenedOn (sym same) (opened_on named.0 s.root c.open_along.new.self c.open_along.ensures.bases c.self.invariant
+    let same : c.insert_entry.new.self ≡ c.open_along.new.node = (c.in_err-insert_entry.ensures {u = tt}).unchanged in
+    subst OpenedOn (sym same) (opened_on named.0 s.root c.open_along.new.node c.open_along.ensures.bases c.self.invariant
     (names_of c.in-Some.directory.now) ok.0 ok.1)
 
 pub invariant_of-self-2 : goal.invariant_of-self-2
@@ -120,13 +120,13 @@ invariant_of-self-2 g c =
     let is = names_of_snoc c.args.path.now c.in-Some.directory.now c.in-Some._last.now c.in-Some.ensures.cases.0 in
     let named = trees_of_objects_exist (g.S.Store.objects s.store) in
     let ok = (c.in_ok-open_along.ensures {u = tt}).opened named.0 named.1 in
-    inserted_on named.0 s.root c.open_along.new.self c.open_along.ensures.bases c.self.invariant c.insert_entry.new.self
+    inserted_on named.0 s.root c.open_along.new.node c.open_along.ensures.bases c.self.invariant c.insert_entry.new.self
     (c.in_ok-insert_entry.ensures {u = tt}).bases
     s.object_hash path (names_of c.in-Some.directory.now) (bstring_bytes c.in-Some._last.now) is (c.in_ok-validate_names.ensures {u = tt}).accepted
     (mode_of_kind c.args.kind) c.args.id ok.0 ok.1
     (λ at. (c.in_ok-insert_entry.ensures {u = tt}).dirs at
-    ∙ ap (λ mode. upserted_dirs (names_of c.args.path.now) mode c.args.id c.null-null.result (dirs_of c.open_along.new.self) at) c.into.ensures
-    ∙ ap (λ null. upserted_dirs (names_of c.args.path.now) (mode_of_kind c.args.kind) c.args.id null (dirs_of c.open_along.new.self) at)
+    ∙ ap (λ mode. upserted_dirs (names_of c.args.path.now) mode c.args.id c.null-null.result (dirs_of c.open_along.new.node) at) c.into.ensures
+    ∙ ap (λ null. upserted_dirs (names_of c.args.path.now) (mode_of_kind c.args.kind) c.args.id null (dirs_of c.open_along.new.node) at)
     c.null-null.ensures.value)
 
 pub returns-clause-upserted : goal.returns-clause-upserted
@@ -135,11 +135,11 @@ returns-clause-upserted g c = λ trees fits.
     let is = names_of_snoc c.args.path.now c.in-Some.directory.now c.in-Some._last.now c.in-Some.ensures.cases.0 in
     let stored = ap (λ (o : State _). o.store) c.self.view_is in
     let ok = (c.in_ok-open_along.ensures {u = tt}).opened trees (subst (λ o. AreTreesOf (g.S.Store.objects o) trees) (sym stored) fits) in
-    upserted_at s.store s.object_hash (names_of s.prefix.items) trees s.root c.open_along.new.self c.insert_entry.new.self s.lookups
+    upserted_at s.store s.object_hash (names_of s.prefix.items) trees s.root c.open_along.new.node c.insert_entry.new.self s.lookups
     c.open_along.new.lookups
     c.args.self.now c.self.view_is (names_of c.args.path.now) (names_of c.in-Some.directory.now) (bstring_bytes c.in-Some._last.now)
     (mode_of_kind c.args.kind) c.args.id ok.0 is (c.in_ok-validate_names.ensures {u = tt}).accepted ok.1
     (λ at. (c.in_ok-insert_entry.ensures {u = tt}).dirs at
-    ∙ ap (λ mode. upserted_dirs (names_of c.args.path.now) mode c.args.id c.null-null.result (dirs_of c.open_along.new.self) at) c.into.ensures
-    ∙ ap (λ null. upserted_dirs (names_of c.args.path.now) (mode_of_kind c.args.kind) c.args.id null (dirs_of c.open_along.new.self) at)
+    ∙ ap (λ mode. upserted_dirs (names_of c.args.path.now) mode c.args.id c.null-null.result (dirs_of c.open_along.new.node) at) c.into.ensures
+    ∙ ap (λ null. upserted_dirs (names_of c.args.path.now) (mode_of_kind c.args.kind) c.args.id null (dirs_of c.open_along.new.node) at)
     c.null-null.ensures.value) ok.2 c.self.invariant c.open_along.ensures.bases (c.in_ok-insert_entry.ensures {u = tt}).bases

@@ -5,7 +5,7 @@ use Rattle.std.specs.Fn.{CalledAt}
 use Rattle.std.proofs.lemmas.Result.{IfOk-weaker}
 use Rattle.gixobj_directories.specs.Calls.{names_of}
 use Rattle.gixobj_directories.specs.WriteErrors.{IsWriteError}
-use Rattle.gixobj_directories.specs.Nested.{bases_of}
+use Rattle.gixobj_open.specs.Nested.{bases_of}
 use Rattle.gixobj_files.specs.Emission.{EmitsSome}
 use Rattle.gixobj_files.specs.Opening.{Dirs}
 use Rattle.gixobj_files.specs.State.{State, open_bases, open_dirs}

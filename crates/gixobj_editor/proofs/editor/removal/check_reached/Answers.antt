@@ -2,7 +2,7 @@ use Rattle.std.proofs.Common.{◌≡◌, ◌∙◌, [], None, Some, append-nil, 
 use Rattle.std.proofs.lemmas.Result.{MatchResult-weaker}
 use Rattle.gixobj_files.specs.Files.{Path}
 use Rattle.gixobj_directories.specs.Calls.{names_of}
-use Rattle.gixobj_directories.specs.Nested.{dirs_of}
+use Rattle.gixobj_open.specs.Nested.{dirs_of}
 use Rattle.gixobj_editor.proofs.editor.removal.check_reached.Goals as goal
 
 pub returns-in_default-clause-accepted : goal.returns-in_default-clause-accepted

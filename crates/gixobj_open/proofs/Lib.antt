@@ -1,0 +1,11 @@
+pub mod BaseSteps
+pub mod CopiedFrames
+pub mod Descents
+pub mod Ends
+pub mod Exchanges
+pub mod LeafTrees
+pub mod Levels
+pub mod NewDirectories
+pub mod Ordered
+pub mod Pieces
+pub mod Steps

@@ -1,0 +1,9 @@
+pub mod Children
+pub mod Copies
+pub mod Decreases
+pub mod Descents
+pub mod LeafTrees
+pub mod Nested
+pub mod NewDirectories
+pub mod Paths
+pub mod Storable
