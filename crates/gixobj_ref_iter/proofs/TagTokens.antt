@@ -1,6 +1,6 @@
 -- States that an input begins with at most one token, and that each consumes bytes or a state, for the laws and
 -- iterator on tags.
-use Rattle.std.proofs.Common.{◌≡◌, ◌≢◌, ◌≤◌, ◌<◌, ◌+◌, ℕ, List, [], ◌∷◌, ◌++◌, Option, Some, None, ap, arith, length, length-append, refl, subst, sym, ◌∙◌}
+use Rattle.std.proofs.Common.{◌≡◌, ◌≤◌, ◌<◌, ◌+◌, ℕ, List, [], ◌∷◌, ◌++◌, ap, arith, length, length-append, refl, subst, sym, ◌∙◌}
 use Rattle.std.proofs.lemmas.List.{append-nil}
 use Rattle.std.specs.Prelude.{codes}
 use Rattle.gixobj_actor.proofs.ActorLines.{actor_view_unique}
@@ -19,7 +19,6 @@ use Rattle.gixobj_line.proofs.TagLines.{no_tagger_and_begins_field}
 use Rattle.gixobj_tokens.specs.TagTokens.{BeginsWithTagToken, DecodesToTagToken, TagTokenView, body_comes, kind_comes, kind_token, name_comes, name_token, no_tagger_comes, tagger_comes, tagger_token, target_comes, target_token}
 use Rattle.gixobj_ref_iter.specs.TagTokenSteps.{remaining_states}
 use Rattle.gixobj_tokens.specs.declared.tag.State.{State}
-use Rattle.gixobj_tokens.specs.declared.tag.State.TheVariants as state
 
 -- ---- a token consumes bytes, or at least a state
 

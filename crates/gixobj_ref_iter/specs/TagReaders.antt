@@ -1,5 +1,5 @@
 -- A tag and its tokens (gitdatamodel, "tag objects").
-use Rattle.std.specs.Prelude.{◌≡◌, ℕ, List, [], ◌∷◌, ◌++◌, Option, Some, None, ⊤}
+use Rattle.std.specs.Prelude.{◌≡◌, List, [], ◌∷◌, ◌++◌, None, ⊤}
 use Rattle.gixobj_hash.specs.Hash.{DecodesToId}
 use Rattle.gixobj_hash.specs.declared.hash.object_id.ObjectId.{ObjectId}
 use Rattle.gixobj_tag.specs.TagFormat.{TagLines}

@@ -1,5 +1,5 @@
 -- Lemmas that the body of a tag splits into message and signature in one way, for entire tags and tokens of tags.
-use Rattle.std.proofs.Common.{◌≡◌, ◌+◌, ℕ, List, [], ◌∷◌, ◌++◌, Option, Some, None, IsFalse, IsTrue, ap, arith, drop, length, refl, subst, sym, take, ◌∙◌}
+use Rattle.std.proofs.Common.{◌≡◌, ◌+◌, ℕ, List, ◌∷◌, ◌++◌, Option, Some, IsFalse, IsTrue, ap, arith, drop, length, refl, subst, sym, take, ◌∙◌}
 use Rattle.std.proofs.Math.Seq.{drop-append_seam, take-append_seam}
 use Rattle.std.proofs.lemmas.Bool.{true≢false}
 use Rattle.gixobj_text.proofs.MarkerPlaces.{no_marker_and_marker_place, marker_place_unique}

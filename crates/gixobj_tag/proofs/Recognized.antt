@@ -1,6 +1,6 @@
 -- Bytes are the encoding of a tag if and only if some tag decodes from them: any bytes split at their last marker.
 -- The law `tag_recognition_agrees` and the lookups of tags use it.
-use Rattle.std.proofs.Common.{◌≡◌, ◌≢◌, ◌⊎◌, ◌<◌, ◌≤◌, ◌+◌, ℕ, List, [], ◌∷◌, ◌++◌, Bool, IsFalse, IsTrue, Option, Some, None, ◌&&◌, ap, append_assoc, arith, drop, false, inl, inr, length, length-append, refl, suc, subst, sym, take, true, zero, ◌∙◌}
+use Rattle.std.proofs.Common.{◌≡◌, ◌≢◌, ◌⊎◌, ◌<◌, ◌≤◌, ◌+◌, ℕ, List, [], ◌∷◌, ◌++◌, Bool, IsTrue, Option, Some, None, ◌&&◌, ap, append_assoc, arith, drop, false, inl, inr, length, length-append, refl, suc, subst, sym, take, true, zero, ◌∙◌}
 use Rattle.std.proofs.lemmas.Bool.Decides.{Decides-eqb, eqb_tells}
 use Rattle.std.proofs.lemmas.List.{length-take-le, take-append-drop}
 use Rattle.std.proofs.lemmas.Slice.Eq.{starts_is}
@@ -8,10 +8,10 @@ use Rattle.std.specs.List.{starts_with}
 use Rattle.std.specs.Prelude.{codes, nat_eq}
 use Rattle.gixobj_hash.specs.declared.hash.kind.Kind as hash
 use Rattle.gixobj_text.proofs.MarkerPlaces.{begins_with_marker_at_place, marker_place_le_len, starts_line_at_place}
-use Rattle.gixobj_text.specs.Markers.{BeginsWithMarker, BeginsWithNoMarker, HasNoMarker, IsMarkerOf, IsMarkerPlace, MarksPlace, StartsLine, pgp_message, pgp_signature, signed_message, ssh_signature}
+use Rattle.gixobj_text.specs.Markers.{BeginsWithMarker, BeginsWithNoMarker, IsMarkerOf, IsMarkerPlace, MarksPlace, StartsLine, pgp_message, pgp_signature, signed_message, ssh_signature}
 use Rattle.gixobj_text.specs.declared.signature.Format.{Format}
-use Rattle.gixobj_line.specs.TagPrefix.{BeginsTag, IsTagBody, IsTag}
-use Rattle.gixobj_tokens.proofs.TagBodies.{is_body_after_newline, is_body_of_newlines}
+use Rattle.gixobj_line.specs.TagPrefix.{IsTagBody, IsTag}
+use Rattle.gixobj_tokens.proofs.TagBodies.{is_body_after_newline}
 use Rattle.gixobj_tag.specs.TagFormat.{DecodesToTag, TagLines}
 use Rattle.gixobj_tokens.specs.TagBodies.{IsBody, IsParted, are_newlines, after_a_newline, newlines_alone, signed, signed_at_once, unsigned}
 

@@ -1,5 +1,5 @@
 -- The lines are written in turn.
-use Rattle.std.proofs.Common.{◌<◌, List, ℕ, ◌++◌, arith, length}
+use Rattle.std.proofs.Common.{List, ℕ, ◌++◌, arith}
 use Rattle.std.proofs.lemmas.Result.{IfErr-weaker, IfOk-weaker, err_from_is_err_and}
 use Rattle.std.specs.Prelude.{codes}
 use Rattle.bstr.specs.BStr.{bstr_bytes}

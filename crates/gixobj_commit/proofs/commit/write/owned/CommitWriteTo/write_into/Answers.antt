@@ -1,5 +1,5 @@
 -- The parts of the encoding are written one after the other.
-use Rattle.std.proofs.Common.{◌<◌, arith, codes, length}
+use Rattle.std.proofs.Common.{arith, codes}
 use Rattle.std.proofs.lemmas.Result.{IfErr-weaker, IfOk-weaker, err_from_is_err_and}
 use Rattle.gixobj_fields.proofs.Appends.{appends_all_append}
 use Rattle.gixobj_fields.proofs.Errors.{lacks_room_after, lacks_room_of_result, writing_error_append}
