@@ -1,4 +1,4 @@
--- The files of the roots that a run's writes emit.
+-- The files of the roots that a run's writes emit; the proof of `edited` uses it.
 use Rattle.std.proofs.Common.{◌≡◌, ◌<◌, ◌∷◌, ◌++◌, ◌∙◌, List, [], ℕ, ap, arith, length, refl, subst, suc, sym, take, zero}
 use Rattle.std.proofs.lemmas.List.{take-append-le}
 use Rattle.std.proofs.lemmas.List.Elements.{All-take, recursion_from_All}

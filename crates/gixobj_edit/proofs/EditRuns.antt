@@ -1,4 +1,5 @@
--- Runs whose commands are done: their steps are those of the script, and the trees that they emit can be encoded.
+-- Runs whose commands are done: their steps are those of the script, and the trees that they emit can be encoded; used
+-- for the call `edited` and its frames.
 use Rattle.std.proofs.Common.{◌≡◌, ◌∷◌, ◌++◌, ◌∙◌, All, List, [], ℕ, ap, arith, length, length-append, refl, suc, take, zero}
 use Rattle.std.proofs.lemmas.List.Elements.{All-append, All-nil}
 use Rattle.std.specs.List.{AllByRecursion, flat_map}

@@ -1,4 +1,5 @@
--- The changes of pairs of entries are those between the files of the trees of these entries.
+-- The changes of pairs of entries are those between the files of the trees of these entries; the proofs of the
+-- comparison use it.
 use Rattle.std.proofs.Common.{◌≡◌, ◌⊎◌, ◌↔◌, ◌∙◌, inl, inr, ⊎_elim, ℕ, zero, suc, Bool, true, false, List, [], ◌∷◌, ◌++◌, ap, map, refl, subst, sym, Option, Some, None}
 use Rattle.std.specs.List.{AllByRecursion}
 use Rattle.std.specs.Prelude.{IsFalse, MatchOption}

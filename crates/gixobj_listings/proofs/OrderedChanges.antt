@@ -1,4 +1,5 @@
--- Changes are in the order of their paths: those of a pair of entries come before those of later entries.
+-- Changes are in the order of their paths: those of a pair of entries come before those of later entries; used for the
+-- comparison.
 use Rattle.std.proofs.Common.{◌≡◌, inl, inr, ℕ, List, [], ◌∷◌, ◌++◌, map, refl, subst, sym, Some, None}
 use Rattle.std.specs.Cmp.Lexicographic.{slice_cmp}
 use Rattle.std.specs.List.{AllByRecursion}

@@ -1,4 +1,5 @@
--- The changes between the files of the entries of one pair, and the step of a comparison.
+-- The changes between the files of the entries of one pair, and the step of a comparison; the proofs of the comparison
+-- and the law `tree_changes_are_step_changes` use it.
 use Rattle.std.proofs.Common.{◌≡◌, ◌⊎◌, ◌↔◌, ◌∙◌, inl, inr, ⊎_elim, ℕ, Bool, true, false, List, [], ◌∷◌, ◌++◌, ap, map, refl, subst, sym, Option, Some, None}
 use Rattle.std.specs.Prelude.{IsFalse, MatchOption}
 use Rattle.gix_object.specs.Entries.{EntryView}

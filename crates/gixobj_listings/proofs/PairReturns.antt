@@ -1,4 +1,5 @@
--- The returns of the comparison of a pair of entries, by the entries as the code has them.
+-- The returns of the comparison of a pair of entries, by the entries as the code has them; `unless_null`, `changes_at`
+-- and `changes_between` use it.
 use Rattle.std.proofs.Common.{◌≡◌, ◌≢◌, ◌⊎◌, ◌∙◌, ℕ, Bool, true, false, List, ap, map, refl, subst, sym, Option, Some, None}
 use Rattle.std.specs.List.{AllByRecursion}
 use Rattle.std.specs.Prelude.{IsFalse}

@@ -1,4 +1,5 @@
--- The changes between a store's trees, in each table that agrees with the store: the returns and the step of `changes`.
+-- The changes between a store's trees, in each table that agrees with the store: the returns and the step of `changes`,
+-- for the proofs of the comparison.
 use Rattle.std.proofs.Common.{◌≡◌, ◌≢◌, ◌⊎◌, ◌↔◌, ◌+◌, ◌≤◌, ℕ, zero, suc, true, false, List, [], ◌∷◌, arith, map, subst, inl, inr, Option, Some, None}
 use Rattle.std.specs.List.{AllByRecursion}
 use Rattle.std.specs.Prelude.{IsFalse}

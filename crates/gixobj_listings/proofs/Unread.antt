@@ -1,4 +1,4 @@
--- The directories of a tree that a store has, and the first that isn't read.
+-- The directories of a tree that a store has, and the first that isn't read; used for the listing and the comparison.
 use Rattle.std.proofs.Common.{◌≡◌, ◌≢◌, ◌⊎◌, ◌+◌, ◌-◌, ◌<◌, ◌∙◌, inl, inr, ⊎_elim, ℕ, zero, suc, Bool, true, false, List, [], ◌∷◌, ◌++◌, ap, arith, get_or, length, refl, subst, sym, take, Some}
 use Rattle.std.proofs.lemmas.List.{take_more}
 use Rattle.std.specs.Cmp.Lexicographic.{nat_list_cmp_total, slice_cmp}

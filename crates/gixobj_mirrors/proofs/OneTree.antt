@@ -1,4 +1,5 @@
--- Canonical roots of two stores have equal ids if and only if they have the same files.
+-- Canonical roots of two stores have equal ids if and only if they have the same files; the law
+-- `equal_files_have_equal_ids` uses it.
 use Rattle.std.proofs.Common.{◌≡◌, ◌≢◌, ◌↔◌, inl, inr, ℕ, zero, suc, true, false, List, [], ◌∷◌, ◌++◌, Option, Some, None, refl, sym, ap, subst, ◌∙◌}
 use Rattle.std.specs.Prelude.{MatchOption}
 use Rattle.std.proofs.lemmas.List.Elements.{All-contains, All-from_recursion, Contains-append_left, Contains-append_right}

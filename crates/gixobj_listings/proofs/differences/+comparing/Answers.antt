@@ -1,3 +1,5 @@
+-- The changes of a pair of entries, of both sides of it, and of a comparison of two directories: the goals of
+-- `changes_at`, `changes_between` and `opened_changes`, which call each other.
 use Rattle.std.proofs.Common.{◌≡◌, ◌↔◌, ◌∙◌, ◌++◌, ◌+◌, ◌-◌, [], ◌∷◌, arith, map, subst, sym, true, false, Some}
 use Rattle.std.specs.List.{AllByRecursion}
 use Rattle.std.specs.Option.{option_copied}

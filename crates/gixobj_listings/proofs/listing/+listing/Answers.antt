@@ -1,3 +1,5 @@
+-- The files of one entry and of all entries of a directory: the goals of `files_at` and `files_of`, which call each
+-- other.
 use Rattle.std.proofs.Common.{◌≡◌, ◌∙◌, ◌++◌, ◌+◌, ℕ, List, ap, map, subst, sym, take, true, false}
 use Rattle.std.proofs.lemmas.List.{take_all}
 use Rattle.bstr.specs.Owned.{bstring_bytes}
