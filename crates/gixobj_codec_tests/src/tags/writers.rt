@@ -1,9 +1,10 @@
-//! Written tags: failing writers, and an id of another kind.
+//! Written tags: failing writers, an id of another kind, and the law that encodes.
 
 use crate::helpers::{has_size, holds, stops};
 use crate::tags::BARE;
 use gixobj_base::hash::{Kind, ObjectId};
 use gixobj_base::{WriteTo, decode};
+use gixobj_codec::laws::tag_decode_encode_agree;
 use gixobj_codec::{Tag, TagRef};
 use std::alloc::Global;
 
@@ -45,4 +46,19 @@ fn returns_writer_error_after_each_prefix(rt: HostRuntime) {
     assert!(rt; holds!(&tag, Ok(tag) => is_stopped(rt.alloc(), tag, SIGNED)));
     let tag = owned_form(rt.alloc(), SIGNED);
     assert!(rt; holds!(&tag, Ok(tag) => is_stopped(rt.alloc(), tag, SIGNED)));
+}
+
+/// Returns whether a decoded tag is encoded identically, by the call of the law.
+fn is_reencoded(alloc: Global, bytes: &[u8]) -> bool {
+    let Ok(tag) = TagRef::from_bytes(bytes, Kind::Sha1) else {
+        return false;
+    };
+    let mut written = Vec::new(alloc);
+    tag_decode_encode_agree(alloc, &tag, &mut written).is_ok() && written.as_slice() == bytes
+}
+
+#[test]
+fn reencodes_identically(rt: HostRuntime) {
+    assert!(rt; is_reencoded(rt.alloc(), BARE));
+    assert!(rt; is_reencoded(rt.alloc(), SIGNED));
 }
