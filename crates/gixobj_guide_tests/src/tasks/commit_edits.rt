@@ -6,7 +6,7 @@ use gix_object::actor::Signature;
 use gix_object::hash::ObjectId;
 use gix_object::tree::editor::Written;
 use gix_object::tree::{EntryKind, path_names};
-use gix_object::{Commit, Error, Find, FindExt, Keep, Memory, Tree, WriteTo};
+use gix_object::{Commit, Error, Find, FindExt, Keep, Memory, Tree};
 use smallvec::SmallVec;
 use std::alloc::Global;
 
