@@ -49,7 +49,12 @@ fn split_frame(alloc: Global, input: &[u8]) -> Option<(&[u8], &[u8])>
     Some(rest.split_at(size as usize))
 }
 
-/// Returns a store of the trees in the frames.
+/// Returns a store of the trees in the frames. Allocates the store.
+///
+/// # Errors
+///
+/// - [`Failure::Malformed`] if the bytes aren't frames.
+/// - [`Failure::OutOfMemory`] if an allocation fails.
 pub fn store_of(alloc: Global, hash: hash::Kind, bytes: &[u8]) -> Result<Memory, Failure>
     ensures found { IfOk result (HoldsFrames hash bytes.now) }
     ensures error { IfErr result (IsFramesError bytes.now) }
@@ -69,7 +74,12 @@ pub fn store_of(alloc: Global, hash: hash::Kind, bytes: &[u8]) -> Result<Memory,
     Ok(store)
 }
 
-/// Returns the frames of the trees that the writes emitted, in order, by the replies.
+/// Returns the frames of the trees that the writes emitted, in order, by the replies. Allocates the frames.
+///
+/// # Errors
+///
+/// - [`Failure::NotEncodable`] if a tree has a name with a zero byte.
+/// - [`Failure::OutOfMemory`] if an allocation fails.
 pub fn frames_of(alloc: Global, replies: &[Reply<Error>]) -> Result<Vec<u8>, Failure>
     ensures found { IfOk result (λ it. it.items ≡ flat_map encode_frame (emitted_pairs replies.now)) }
     ensures error { IfErr result (IsFramesEncodeError (emitted_pairs replies.now)) }

@@ -15,7 +15,14 @@ use gixobj_tree::Tree;
 use std::alloc::Global;
 
 /// Returns the root with the id of these bytes. The null id and the empty tree's id are those of a root without
-/// entries.
+/// entries. Allocates the root.
+///
+/// # Errors
+///
+/// - [`Failure::Malformed`] if an id of this hash function has another length.
+/// - [`Failure::NotFound`] with the id, if the store has no object of it.
+/// - [`Failure::MalformedTree`] if the object isn't the encoding of a well-formed tree.
+/// - [`Failure::OutOfMemory`] if an allocation fails.
 pub fn root_of(
     alloc: Global,
     store: &Memory,

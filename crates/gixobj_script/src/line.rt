@@ -20,7 +20,11 @@ use std::alloc::Global;
 /// Parses a line with ids of `hash`: an edit, `at PREFIX EDIT` with a prefix without a space, or `root`; else
 /// `None`.
 ///
-/// `OutOfMemory` only if the line is a command.
+/// Allocates the names of paths.
+///
+/// # Errors
+///
+/// [`OutOfMemory`] if an allocation fails, only if the line is a command.
 pub fn parse_command(alloc: Global, line: &[u8], hash: Kind) -> Result<Option<Command>, OutOfMemory>
     ensures found { IfOk result (λ it. MatchOption it (HasNoCommand hash line.now)
         (λ command. DecodesToCommand hash line.now (command_view command))) }
@@ -59,7 +63,11 @@ fn parse_edit_at(alloc: Global, bytes: &[u8], hash: Kind) -> Result<Option<Comma
 
 /// Parses an edit, `upsert KIND HEX PATH`, `remove PATH`, `leaf PATH` or `write`; else `None`.
 ///
-/// `OutOfMemory` only if the bytes are an edit.
+/// Allocates the names of the path.
+///
+/// # Errors
+///
+/// [`OutOfMemory`] if an allocation fails, only if the bytes are an edit.
 pub fn parse_edit(alloc: Global, bytes: &[u8], hash: Kind) -> Result<Option<Edit>, OutOfMemory>
     ensures found { IfOk result (λ it. MatchOption it (HasNoEdit hash bytes.now)
         (λ edit. DecodesToEdit hash bytes.now (edit_view edit))) }

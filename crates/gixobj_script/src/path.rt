@@ -10,7 +10,11 @@ use gixobj_hash::split::split_at_byte;
 use std::alloc::Global;
 
 /// Splits a path at each slash into its names, which may be empty. The path `.` has no names, and allocates
-/// nothing.
+/// nothing; else the names are allocated.
+///
+/// # Errors
+///
+/// [`OutOfMemory`] if an allocation fails, never for the path `.`.
 pub fn names_of_path(alloc: Global, path: &[u8]) -> Result<Vec<BString>, OutOfMemory>
     ensures names { IfOk result (λ names. ArePathNames path.now (path_names names.items)) }
     ensures error { OnErr result (path.now ≢ root_path) }
