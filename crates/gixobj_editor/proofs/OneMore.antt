@@ -9,7 +9,7 @@ use Rattle.gixobj_editor.specs.declared.reply.EditReply.{EditReply}
 use Rattle.gixobj_editor.specs.declared.reply.Reply.{Reply}
 use Rattle.gixobj_store.specs.Stores.{StoreModel}
 
-nil_of_len_zero : {X : Type 0} (xs : List X) → length xs ≡ 0 → xs ≡ []
+pub nil_of_len_zero : {X : Type 0} (xs : List X) → length xs ≡ 0 → xs ≡ []
 nil_of_len_zero [] e = refl
 nil_of_len_zero (x ∷ xs) e = absurd (omega arith)
 

@@ -1,8 +1,8 @@
 //! Edits and writes by a cursor, with their replies.
-ghost use Rattle.std.specs.Prelude.{◌≡◌, ◌+◌, ◌≤◌, ◌++◌, ◌∷◌, [], All, length, vec_capacity};
+ghost use Rattle.std.specs.Prelude.{◌≡◌, ◌+◌, ◌≤◌, ◌++◌, ◌∷◌, [], length, vec_capacity};
 ghost use Rattle.std.specs.Fn.{FnReturnsAt};
 ghost use Rattle.gixobj_directories.specs.Calls.{names_of};
-ghost use Rattle.gixobj_editor.specs.Causes.{HasKeepCause, HasKeepCauses};
+ghost use Rattle.gixobj_editor.specs.Causes.{HasCausesAt, HasKeepCause, HaveEditCauses};
 ghost use Rattle.gixobj_editor.specs.Cursors.{cursor_path};
 ghost use Rattle.gixobj_editor.specs.Commands.{at_cursor};
 ghost use Rattle.gixobj_editor.specs.Replies.{AreEditReplies, IsCallable, IsEditReply, IsReplyAt};
@@ -29,7 +29,8 @@ pub(crate) fn do_edits_at<S: Keep, E: Drop, F: Fn(&Tree) -> Result<ObjectId, E>>
     requires callable { IsCallable F.pre out.now }
     ensures reply { IsReplyAt (store_model S.objects S.may_fail) (FnReturnsAt F.Fn out.now)
         (cursor_path (names_of prefix.now)) editor.old edits.items result editor.new }
-    ensures causes { HasKeepCauses S.objects S.keep_errors result }
+    ensures causes { HasCausesAt (store_model S.objects S.may_fail) S.keep_errors (FnReturnsAt F.Fn out.now)
+        (cursor_path (names_of prefix.now)) editor.old edits.items result editor.new }
 {
     match Vec::with_capacity(alloc, edits.len()) {
         Ok(replies) => do_edits_in(editor, prefix, edits, replies, out),
@@ -50,7 +51,8 @@ fn do_edits_in<S: Keep, E: Drop, F: Fn(&Tree) -> Result<ObjectId, E>>(
     requires has_capacity { length edits.items ≤ vec_capacity replies }
     ensures reply { IsReplyAt (store_model S.objects S.may_fail) (FnReturnsAt F.Fn out.now)
         (cursor_path (names_of prefix.now)) editor.old edits.items result editor.new }
-    ensures causes { HasKeepCauses S.objects S.keep_errors result }
+    ensures causes { HasCausesAt (store_model S.objects S.may_fail) S.keep_errors (FnReturnsAt F.Fn out.now)
+        (cursor_path (names_of prefix.now)) editor.old edits.items result editor.new }
 {
     match editor.cursor_at(prefix) {
         Ok(mut cursor) => Reply::At(do_edits(&mut cursor, edits, replies, out)),
@@ -72,7 +74,9 @@ fn do_edits<S: Keep, E: Drop, F: Fn(&Tree) -> Result<ObjectId, E>>(
     ensures replies { AreEditReplies (store_model S.objects S.may_fail) (FnReturnsAt F.Fn out.now)
         (at_cursor cursor.old.editor.now.prefix) cursor.old.editor.now edits.items result.items
         cursor.new.editor.now }
-    ensures causes { All (HasKeepCause S.objects S.keep_errors) result.items }
+    ensures causes { HaveEditCauses (store_model S.objects S.may_fail) S.keep_errors
+        (FnReturnsAt F.Fn out.now) (at_cursor cursor.old.editor.now.prefix) cursor.old.editor.now
+        edits.items result.items cursor.new.editor.now }
 {
     let mut replies = replies;
     for edit in edits {
@@ -94,7 +98,7 @@ fn do_edit_by<S: Keep, E, F: Fn(&Tree) -> Result<ObjectId, E>>(
     ensures reply { IsEditReply (store_model S.objects S.may_fail) (FnReturnsAt F.Fn out.now)
         (at_cursor cursor.old.editor.now.prefix) cursor.old.editor.now edit result
         cursor.new.editor.now }
-    ensures cause { HasKeepCause S.objects S.keep_errors result }
+    ensures cause { HasKeepCause S.objects S.keep_errors cursor.old.editor.now.store result }
 {
     match edit {
         Edit::Upsert { path, kind, id } => reply_to_edit(cursor.try_upsert(&path, kind, id)),
@@ -115,7 +119,7 @@ fn do_write_by<S: Keep, E, F: Fn(&Tree) -> Result<ObjectId, E>>(
     ensures reply { IsEditReply (store_model S.objects S.may_fail) (FnReturnsAt F.Fn out.now)
         (at_cursor cursor.old.editor.now.prefix) cursor.old.editor.now Edit.Write result
         cursor.new.editor.now }
-    ensures cause { HasKeepCause S.objects S.keep_errors result }
+    ensures cause { HasKeepCause S.objects S.keep_errors cursor.old.editor.now.store result }
 {
     let written = match cursor.write(out) {
         Ok(written) => written,

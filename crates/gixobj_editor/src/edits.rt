@@ -22,7 +22,7 @@ pub(crate) fn do_edit<S: Keep, E, F: Fn(&Tree) -> Result<ObjectId, E>>(
     requires callable { IsCallable F.pre out.now }
     ensures reply { IsEditReply (store_model S.objects S.may_fail) (FnReturnsAt F.Fn out.now) at_root
         editor.old edit result editor.new }
-    ensures cause { HasKeepCause S.objects S.keep_errors result }
+    ensures cause { HasKeepCause S.objects S.keep_errors editor.old.store result }
 {
     match edit {
         Edit::Upsert { path, kind, id } => reply_to_edit(editor.try_upsert(&path, kind, id)),
@@ -40,7 +40,7 @@ fn do_write<S: Keep, E, F: Fn(&Tree) -> Result<ObjectId, E>>(
     requires callable { IsCallable F.pre out.now }
     ensures reply { IsEditReply (store_model S.objects S.may_fail) (FnReturnsAt F.Fn out.now) at_root
         editor.old Edit.Write result editor.new }
-    ensures cause { HasKeepCause S.objects S.keep_errors result }
+    ensures cause { HasKeepCause S.objects S.keep_errors editor.old.store result }
 {
     let written = match editor.write(out) {
         Ok(written) => written,

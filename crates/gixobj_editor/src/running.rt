@@ -1,12 +1,12 @@
 //! Runs of commands on an editor, and the theorem of the files that a written tree has.
-ghost use Rattle.std.specs.Prelude.{◌≡◌, [], ℕ, All, IfOk, OnErr, Some, take};
+ghost use Rattle.std.specs.Prelude.{◌≡◌, [], ℕ, IfOk, OnErr, Some, take};
 ghost use Rattle.std.specs.Fn.{FnReturnsAt};
 ghost use Rattle.gixobj_files.specs.Bases.{HasBases};
 ghost use Rattle.gixobj_files.specs.Files.{NamedFiles, SameFiles, Table};
 ghost use Rattle.gixobj_files.specs.History.{FilesAfter};
 ghost use Rattle.gixobj_files.specs.State.{EditorFiles, open_bases, open_dirs};
 ghost use Rattle.gixobj_files.specs.Tables.{AgreesWithPairs};
-ghost use Rattle.gixobj_editor.specs.Causes.{HasKeepCauses};
+ghost use Rattle.gixobj_editor.specs.Causes.{HasReplyCauses, HaveRunCauses};
 ghost use Rattle.gixobj_editor.specs.Commands.{accepted_steps, kept_pairs, written_at};
 ghost use Rattle.gixobj_editor.specs.PlainRuns.{IdsDetermineFiles, IsPlainRun};
 ghost use Rattle.gixobj_editor.specs.Replies.{IsCallable, IsReply, IsRun};
@@ -33,7 +33,7 @@ use std::alloc::Global;
 /// the calls of [`Editor`], and the store as its [`Keep::keep`].
 ///
 /// The cause in each [`EditReply::NotKept`](crate::EditReply::NotKept) is the error that [`Keep::keep`] returned
-/// for the first tree that isn't kept.
+/// for the first tree that isn't kept, in the store as it then was.
 ///
 /// `out` must be callable on every well-formed tree without null ids.
 ///
@@ -75,7 +75,8 @@ pub fn run<S: Keep, E: Drop, F: Fn(&Tree) -> Result<ObjectId, E> + Drop>(
         IsRun (store_model S.objects S.may_fail) (FnReturnsAt F.Fn out) editor.old commands.items
         replies.items editor.new) }
     ensures causes { IfOk result (λ replies.
-        All (HasKeepCauses S.objects S.keep_errors) replies.items) }
+        HaveRunCauses (store_model S.objects S.may_fail) S.keep_errors (FnReturnsAt F.Fn out) editor.old
+        commands.items replies.items editor.new) }
     ensures stored { IfOk result (λ replies. S.objects editor.new.store
         ≡ with_trees (kept_pairs replies.items) (S.objects editor.old.store)) }
     ensures files_of_root { IfOk result (λ replies. (T : Table) (n k : ℕ) (written : Written)
@@ -115,7 +116,8 @@ pub fn run_command<S: Keep, E: Drop, F: Fn(&Tree) -> Result<ObjectId, E>>(
     requires callable { IsCallable F.pre out.now }
     ensures reply { IsReply (store_model S.objects S.may_fail) (FnReturnsAt F.Fn out.now) editor.old
         command result editor.new }
-    ensures causes { HasKeepCauses S.objects S.keep_errors result }
+    ensures causes { HasReplyCauses (store_model S.objects S.may_fail) S.keep_errors
+        (FnReturnsAt F.Fn out.now) editor.old command result editor.new }
 {
     match command {
         Command::Edit(edit) => Reply::Edit(do_edit(editor, edit, out)),

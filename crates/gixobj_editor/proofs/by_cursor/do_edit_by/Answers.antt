@@ -40,13 +40,15 @@ returns-in-RemoveLeaf-clause-reply g c =
 
 pub returns-in-Upsert-clause-cause : goal.returns-in-Upsert-clause-cause
 returns-in-Upsert-clause-cause g c =
-    reply_to_has_keep_cause g.S.Store.objects g.S.Keep.keep_errors c.try_upsert.result c.reply_to_edit.result c.reply_to_edit.ensures.reply
+    reply_to_has_keep_cause g.S.Store.objects g.S.Keep.keep_errors c.args.cursor.now.editor.now.store c.try_upsert.result c.reply_to_edit.result
+    c.reply_to_edit.ensures.reply
 
 pub returns-in-Remove-clause-cause : goal.returns-in-Remove-clause-cause
 returns-in-Remove-clause-cause g c =
-    reply_to_has_keep_cause g.S.Store.objects g.S.Keep.keep_errors c.try_remove.result c.reply_to_edit-in-Remove.result c.reply_to_edit-in-Remove.ensures.reply
+    reply_to_has_keep_cause g.S.Store.objects g.S.Keep.keep_errors c.args.cursor.now.editor.now.store c.try_remove.result
+    c.reply_to_edit-in-Remove.result c.reply_to_edit-in-Remove.ensures.reply
 
 pub returns-in-RemoveLeaf-clause-cause : goal.returns-in-RemoveLeaf-clause-cause
 returns-in-RemoveLeaf-clause-cause g c =
-    reply_to_has_keep_cause g.S.Store.objects g.S.Keep.keep_errors c.try_remove_leaf.result c.reply_to_edit-in-RemoveLeaf.result
-    c.reply_to_edit-in-RemoveLeaf.ensures.reply
+    reply_to_has_keep_cause g.S.Store.objects g.S.Keep.keep_errors c.args.cursor.now.editor.now.store c.try_remove_leaf.result
+    c.reply_to_edit-in-RemoveLeaf.result c.reply_to_edit-in-RemoveLeaf.ensures.reply

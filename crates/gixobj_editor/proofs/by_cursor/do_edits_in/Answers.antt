@@ -2,6 +2,7 @@ use Rattle.std.proofs.Common.{List, Result, inr, rules, ◌≡◌}
 use Rattle.std.specs.Fn.{FnReturnsAt}
 use Rattle.gixobj_directories.specs.Calls.{names_of}
 use Rattle.gixobj_directories.specs.Openings.{OfTrees}
+use Rattle.gixobj_editor.specs.Causes.{HasCausesAt}
 use Rattle.gixobj_editor.specs.Cursors.{cursor_path}
 use Rattle.gixobj_editor.specs.Upserts.{IsNameError}
 use Rattle.gixobj_editor.specs.FailedEdits.{IsAfterFailedEdit}
@@ -12,6 +13,7 @@ use Rattle.gixobj_store.specs.Stores.{StoreModel}
 use Rattle.gixobj_tree.specs.Entries.{EntryView}
 use Rattle.gixobj_editor.specs.Replies.{IsReplyAt}
 use Rattle.gixobj_editor.specs.declared.reply.Reply.TheVariants as reply
+use Rattle.gixobj_editor.proofs.Causes.{causes_at}
 use Rattle.gixobj_editor.proofs.Replied.{done_at}
 use Rattle.gixobj_editor.proofs.by_cursor.do_edits_in.Goals as goal
 
@@ -26,7 +28,12 @@ returns-in-Ok g c =
     λ new outside. done_at model answers (cursor_path (names_of c.args.prefix.now)) c.in-Ok.cursor.editor.now.prefix c.args.editor.now c.in-Ok.cursor.editor.now
     pending new c.args.edits.items c.do_edits.result
     made.prefix made.ensured c.do_edits.ensures.replies outside in
-    record { reply = done _ (search rules); causes = c.do_edits.ensures.causes }
+    let causes : (new : State g.row.S.Denot) → new ≡ pending → HasCausesAt model g.S.Keep.keep_errors answers (cursor_path (names_of c.args.prefix.now))
+    c.args.editor.now c.args.edits.items (reply.At c.do_edits.result) new =
+    λ new outside. causes_at model g.S.Keep.keep_errors answers (cursor_path (names_of c.args.prefix.now)) c.in-Ok.cursor.editor.now.prefix c.args.editor.now
+    c.in-Ok.cursor.editor.now pending new c.args.edits.items c.do_edits.result
+    made.prefix made.ensured c.do_edits.ensures.causes outside in
+    record { reply = done _ (search rules); causes = causes _ (search rules) }
 
 pub returns-in-Err : goal.returns-in-Err
 returns-in-Err g c =

@@ -1,4 +1,4 @@
-use Rattle.std.proofs.Common.{List, Result, ap, refl}
+use Rattle.std.proofs.Common.{List, Result, ap, refl, ◌∙◌}
 use Rattle.std.specs.Fn.{FnReturnsAt}
 use Rattle.gixobj_files.specs.Emission.{EmitsSome}
 use Rattle.gixobj_files.specs.Opening.{in_path}
@@ -48,5 +48,8 @@ returns-in-Err-keep_all-clause-reply g c =
 
 pub returns-in-Err-keep_all-clause-cause : goal.returns-in-Err-keep_all-clause-cause
 returns-in-Err-keep_all-clause-cause g c =
-    cause_of_borrowed_trees g.S.Store.objects g.S.Keep.keep_errors c.store_mut.result.now c.in-Ok.written.trees.items c.deref.result.now
-    c.in-Err-keep_all.count c.in-Err-keep_all.error c.deref.ensures.value (c.in-Err-keep_all.ensures {u = tt}).cause
+    let wrote = written_below g.F.Fn _ c.args.out c.args.cursor.now.editor.now c.write.new.self.editor.now c.args.cursor.now.editor.now.prefix c.in-Ok.written
+    (c.in-Ok.ensures {u = tt}).written (λ requested tree answer answered it. (it.met.1, it.met.0)) in
+    cause_of_borrowed_trees g.S.Store.objects g.S.Keep.keep_errors c.args.cursor.now.editor.now.store c.store_mut.result.now c.in-Ok.written.trees.items
+    c.deref.result.now c.in-Err-keep_all.count c.in-Err-keep_all.error c.deref.ensures.value
+    (c.store_mut.ensures.value ∙ ap (λ (s : State g.row.S.Denot). s.store) wrote.rest) (c.in-Err-keep_all.ensures {u = tt}).cause

@@ -18,7 +18,8 @@ returns-in-Upsert g c =
           (upsert_replied model answers at_root c.args.editor.now call.new.self c.in-Upsert.path c.deref.result.now c.deref.ensures.value c.in-Upsert.kind
           c.in-Upsert.id call.result
           call.ensures.upserted call.ensures.after_error call.ensures.error call.ensures.unchanged);
-      cause = reply_to_has_keep_cause g.S.Store.objects g.S.Keep.keep_errors call.result c.reply_to_edit.result c.reply_to_edit.ensures.reply;
+      cause = reply_to_has_keep_cause g.S.Store.objects g.S.Keep.keep_errors c.args.editor.now.store call.result c.reply_to_edit.result
+          c.reply_to_edit.ensures.reply;
     }
 
 pub returns-in-Remove : goal.returns-in-Remove
@@ -31,7 +32,7 @@ returns-in-Remove g c =
           (removal_replied model answers at_root c.args.editor.now call.new.self c.in-Remove.path c.deref-in-Remove.result.now c.deref-in-Remove.ensures.value
           call.result
           call.ensures.removed call.ensures.after_error call.ensures.error);
-      cause = reply_to_has_keep_cause g.S.Store.objects g.S.Keep.keep_errors call.result c.reply_to_edit-in-Remove.result
+      cause = reply_to_has_keep_cause g.S.Store.objects g.S.Keep.keep_errors c.args.editor.now.store call.result c.reply_to_edit-in-Remove.result
           c.reply_to_edit-in-Remove.ensures.reply;
     }
 
@@ -45,6 +46,6 @@ returns-in-RemoveLeaf g c =
           (leaf_removal_replied model answers at_root c.args.editor.now call.new.self c.in-RemoveLeaf.path c.deref-in-RemoveLeaf.result.now
           c.deref-in-RemoveLeaf.ensures.value call.result
           call.ensures.removed call.ensures.after_error call.ensures.error);
-      cause = reply_to_has_keep_cause g.S.Store.objects g.S.Keep.keep_errors call.result c.reply_to_edit-in-RemoveLeaf.result
+      cause = reply_to_has_keep_cause g.S.Store.objects g.S.Keep.keep_errors c.args.editor.now.store call.result c.reply_to_edit-in-RemoveLeaf.result
           c.reply_to_edit-in-RemoveLeaf.ensures.reply;
     }

@@ -1,4 +1,4 @@
-use Rattle.std.proofs.Common.{List, Result, ap, refl}
+use Rattle.std.proofs.Common.{List, Result, ap, refl, ◌∙◌}
 use Rattle.std.specs.Fn.{FnReturnsAt}
 use Rattle.gixobj_files.specs.Emission.{EmitsSome}
 use Rattle.gixobj_files.specs.State.{State, open_bases, open_dirs}
@@ -50,6 +50,7 @@ returns-in-Err-keep_all g c =
       reply = not_kept model answers at_root c.args.editor.now c.write.new.self _ c.store_mut.result.now c.keep_all.new.store c.in-Ok.written
           c.deref.result.now wrote (ap (λ (s : State g.row.S.Denot). s.store) wrote.rest) c.store_mut.ensures.value c.deref.ensures.value refl
           c.keep_all.ensures.same_may_fail c.in-Err-keep_all.count c.in-Err-keep_all.error (c.in-Err-keep_all.ensures {u = tt}).error;
-      cause = cause_of_borrowed_trees g.S.Store.objects g.S.Keep.keep_errors c.store_mut.result.now c.in-Ok.written.trees.items c.deref.result.now
-          c.in-Err-keep_all.count c.in-Err-keep_all.error c.deref.ensures.value (c.in-Err-keep_all.ensures {u = tt}).cause;
+      cause = cause_of_borrowed_trees g.S.Store.objects g.S.Keep.keep_errors c.args.editor.now.store c.store_mut.result.now c.in-Ok.written.trees.items
+          c.deref.result.now c.in-Err-keep_all.count c.in-Err-keep_all.error c.deref.ensures.value
+          (c.store_mut.ensures.value ∙ ap (λ (s : State g.row.S.Denot). s.store) wrote.rest) (c.in-Err-keep_all.ensures {u = tt}).cause;
     }

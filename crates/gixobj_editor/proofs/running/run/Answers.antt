@@ -3,8 +3,7 @@ use Rattle.std.specs.Fn.{FnReturnsAt}
 use Rattle.gixobj_hash.specs.declared.hash.object_id.ObjectId.{ObjectId}
 use Rattle.gixobj_store.specs.Stores.{StoreModel}
 use Rattle.gixobj_tree.specs.Entries.{EntryView}
-use Rattle.gixobj_editor.specs.Causes.{HasKeepCauses}
-use Rattle.gixobj_editor.proofs.Causes.{all_snoc}
+use Rattle.gixobj_editor.proofs.Causes.{no_more_causes, one_more_cause}
 use Rattle.gixobj_editor.proofs.Named.{names_history, run_keeps_pairs}
 use Rattle.gixobj_editor.proofs.OneId.{ids_determine_files}
 use Rattle.gixobj_editor.proofs.OneMore.{no_more, one_more}
@@ -20,8 +19,8 @@ loop-command-preserved g c =
           c.push_reserved.ensures.items c.loop-command.invariant.so_far h;
       room = let e = ap length steps.0 in grind (arith, c.loop-command.invariant.room);
       same = refl;
-      causes = all_snoc (HasKeepCauses {E = g.row.E.Denot} g.S.Store.objects g.S.Keep.keep_errors) _ _ c.run_command-reply.result c.push_reserved.ensures.items
-          c.loop-command.invariant.causes c.run_command-reply.ensures.causes;
+      causes = λ replies new h. one_more_cause model g.S.Keep.keep_errors answers c.loop-command.editor _ _ _ _ _ _ _ _ _ _ _
+          c.run_command-reply.ensures.reply c.run_command-reply.ensures.causes steps.0 c.push_reserved.ensures.items c.loop-command.invariant.causes h;
     }
 
 pub returns-clause-replies : goal.returns-clause-replies
@@ -52,3 +51,10 @@ returns-clause-stored g c =
     let answers = λ (tree : List EntryView) (answer : Result ObjectId g.row.E.Denot). FnReturnsAt g.F.Fn c.args.out tree answer in
     run_keeps_pairs model answers _ _ _ _
     (no_more model answers _ _ _ _ _ (omega (arith, c.in-None.ensures.steps.0, c.loop-command.command-iterator.rest.ok.0)) c.loop-command.invariant.so_far)
+
+pub returns-clause-causes : goal.returns-clause-causes
+returns-clause-causes g c =
+    let model : StoreModel g.row.S.Denot = record { objects = g.S.Store.objects; may_fail = g.S.Store.may_fail } in
+    let answers = λ (tree : List EntryView) (answer : Result ObjectId g.row.E.Denot). FnReturnsAt g.F.Fn c.args.out tree answer in
+    no_more_causes model g.S.Keep.keep_errors answers _ _ _ _ _
+    (omega (arith, c.in-None.ensures.steps.0, c.loop-command.command-iterator.rest.ok.0)) c.loop-command.invariant.causes
