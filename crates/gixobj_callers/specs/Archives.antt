@@ -6,9 +6,11 @@ use Rattle.gix_object.specs.Files.{NamedFiles, SameFiles, Table, Trees}
 use Rattle.gix_object.specs.Hash.{id_of}
 use Rattle.gix_object.specs.History.{FilesAfter}
 use Rattle.gix_object.specs.Imports.{AgreesWithImports, AreCommitsOf, HaveFiles, IsNewImporter, edits_of, pairs_of_imports}
+use Rattle.gix_object.specs.Keeping.{KeepCommitErrors, KeepErrors}
 use Rattle.gix_object.specs.Openings.{OfTrees}
 use Rattle.gix_object.specs.PlainHistory.{NoFiles}
 use Rattle.gix_object.specs.RunTables.{DecodesToItself}
+use Rattle.gix_object.specs.StepCauses.{HasImportCause}
 use Rattle.gix_object.specs.Steps.{Stops}
 use Rattle.gix_object.specs.Stores.{Objects, StoreModel}
 use Rattle.gix_object.specs.Tables.{IsConsistentWith}
@@ -69,3 +71,15 @@ pub record IsArchiveError {S : Type 0} (model : StoreModel S) (store : S) (hash 
   pub over : start.editor.store ≡ store
   pub ids : start.hash ≡ hash
   pub stops : Stops model start steps done error after
+
+-- the cause of that error: it is that of the import, by a new importer over this store
+pub record HasArchiveCause {S : Type 0} (model : StoreModel S) (tree_errors : KeepErrors S)
+    (commit_errors : KeepCommitErrors S) (store : S) (hash : hash.Kind) (steps : List Step) (error : ImportError)
+    : Type 0 where
+  pub start : Importer S
+  pub after : Importer S
+  pub done : List Imported
+  pub is_new : IsNewImporter start
+  pub over : start.editor.store ≡ store
+  pub ids : start.hash ≡ hash
+  pub cause : HasImportCause model tree_errors commit_errors start steps done error after

@@ -1,6 +1,6 @@
 //! An archive, which imports a history into an object store: all its commits, or the last one.
-ghost use Rattle.std.specs.Prelude.{◌≡◌, ◌↔◌, [], IfErr, IfOk, IfSome, IsNone, List};
-ghost use Rattle.gixobj_callers.specs.Archives.{IsArchiveError, IsArchived, IsTip};
+ghost use Rattle.std.specs.Prelude.{◌≡◌, ◌↔◌, [], IfErr, IfOk, IfSome, IsNone};
+ghost use Rattle.gixobj_callers.specs.Archives.{HasArchiveCause, IsArchiveError, IsArchived, IsTip};
 ghost use Rattle.gix_object.specs.Imports.{IsNewImporter, before};
 ghost use Rattle.gix_object.specs.StepCauses.{HasImportCause};
 ghost use Rattle.gix_object.specs.Steps.{Stops};
@@ -41,8 +41,8 @@ pub fn archive<S: Keep + KeepCommit>(
         (S.objects importer.new.editor.store)) }
     ensures error { IfErr result (λ it. Stops (store_model S.objects S.may_fail) importer.old steps.now
         it.done.items it.error importer.new) }
-    ensures cause { IfErr result (λ it. HasImportCause S.objects S.keep_errors S.keep_commit_errors
-        importer.old.hash steps.now it.done.items it.error) }
+    ensures cause { IfErr result (λ it. HasImportCause (store_model S.objects S.may_fail) S.keep_errors
+        S.keep_commit_errors importer.old steps.now it.done.items it.error importer.new) }
 {
     match import_all(importer, steps) {
         Ok(imported) => {
@@ -78,8 +78,8 @@ pub fn tip_of<S: Keep + KeepCommit + Drop>(
     ensures none { IfOk result (λ tip. IsNone tip ↔ (steps.now ≡ [])) }
     ensures tip { IfOk result (λ tip. IfSome tip (IsTip (S.objects store) hash steps.now)) }
     ensures error { IfErr result (IsArchiveError (store_model S.objects S.may_fail) store hash steps.now) }
-    ensures cause { IfErr result (λ error. (done : List Imported)
-        × HasImportCause S.objects S.keep_errors S.keep_commit_errors hash steps.now done error) }
+    ensures cause { IfErr result (HasArchiveCause (store_model S.objects S.may_fail) S.keep_errors
+        S.keep_commit_errors store hash steps.now) }
 {
     let mut importer = Importer::new(alloc, store, hash);
     match import_all(&mut importer, steps) {

@@ -10,7 +10,7 @@ use Rattle.gixobj_hash.specs.declared.hash.kind.Kind as hash
 use Rattle.gixobj_hash.specs.declared.hash.object_id.ObjectId.{ObjectId}
 use Rattle.gixobj_import.specs.Edited.{AreDone}
 use Rattle.gixobj_import.specs.OutCauses.{HasOutCause, HasOutCauseAfter}
-use Rattle.gixobj_import.specs.StepCauses.{HasCommitCause, HasEncodingCause, HasImportCause, HasStepCause}
+use Rattle.gixobj_import.specs.StepCauses.{HasCommitCause, HasEncodingCause, HasImportCause, HasStepCause, HasTreeCause, HasTreeCauseAfter}
 use Rattle.gixobj_import.specs.Steps.{AreImported, IsStepEncodeError, IsStepError, Stops}
 use Rattle.gixobj_import.specs.declared.import.ImportError.{ImportError}
 use Rattle.gixobj_import.specs.declared.import.ImportError.TheVariants as import
@@ -18,7 +18,7 @@ use Rattle.gixobj_import.specs.declared.import.Imported.{Imported}
 use Rattle.gixobj_import.specs.declared.import.Importer.{Importer}
 use Rattle.gixobj_import.specs.declared.import.Step.{Step}
 use Rattle.gixobj_keep.specs.Keeping.{KeepCommitErrors, KeepErrors}
-use Rattle.gixobj_store.specs.Stores.{Objects, StoreModel}
+use Rattle.gixobj_store.specs.Stores.{StoreModel}
 use Rattle.gixobj_tree.specs.Entries.{EntryView, Pair}
 
 -- an importer keeps its hash kind
@@ -41,23 +41,37 @@ commit_cause_of_encode_error errors store hash step tree parent (import.Commit e
 commit_cause_of_encode_error errors store hash step tree parent import.OutOfMemory is = tt
 commit_cause_of_encode_error errors store hash step tree parent import.Failed is = tt
 
-module _ {S : Type 0} (objects : S → Objects) (tree_errors : KeepErrors S) (commit_errors : KeepCommitErrors S) where
-  -- the cause of the step that fails is that of the import
-  pub import_cause_of_step : (old now : hash.Kind) (steps : List Step) (done : List Imported) (step : Step) (parent : Option ObjectId)
-      (error : ImportError) → now ≡ old → slice_get steps (length done) ≡ Some step
-      → HasStepCause objects tree_errors commit_errors now step parent error → HasImportCause objects tree_errors commit_errors old steps done error
-  import_cause_of_step old now steps done step parent (import.NotKept error) same at cause =
-      (step, at, parent, subst (λ (h : hash.Kind). HasStepCause objects tree_errors commit_errors h step parent (import.NotKept error)) same cause)
-  import_cause_of_step old now steps done step parent import.WriteInStep same at cause = tt
-  import_cause_of_step old now steps done step parent (import.Edit index error) same at cause = tt
-  import_cause_of_step old now steps done step parent (import.Write error) same at cause = tt
-  import_cause_of_step old now steps done step parent (import.Commit error) same at cause = tt
-  import_cause_of_step old now steps done step parent import.OutOfMemory same at cause = tt
-  import_cause_of_step old now steps done step parent import.Failed same at cause = tt
+module _ {S : Type 0} (model : StoreModel S) (tree_errors : KeepErrors S) where
+  -- the cause of a tree that isn't kept is one of the write after its edits
+  pub tree_cause_after : (hash : hash.Kind) (edits : List Edit) (old edited new : State S) (done : Result Written ImportError)
+      → AreDone model old edits edited → IfErr done (λ error. HasTreeCause model tree_errors hash edited error new)
+      → IfErr done (λ error. HasTreeCauseAfter model tree_errors hash old edits error new)
+  tree_cause_after hash edits old edited new (Ok it) all cause = tt
+  tree_cause_after hash edits old edited new (Err (import.NotKept error)) all cause = (edited, all, cause)
+  tree_cause_after hash edits old edited new (Err (import.Write error)) all cause = tt
+  tree_cause_after hash edits old edited new (Err import.WriteInStep) all cause = tt
+  tree_cause_after hash edits old edited new (Err (import.Edit index error)) all cause = tt
+  tree_cause_after hash edits old edited new (Err (import.Commit error)) all cause = tt
+  tree_cause_after hash edits old edited new (Err import.OutOfMemory) all cause = tt
+  tree_cause_after hash edits old edited new (Err import.Failed) all cause = tt
 
-  pub import_cause_out_of_memory : (hash : hash.Kind) (steps : List Step) (done : List Imported) (error : ImportError) → error ≡ import.OutOfMemory
-      → HasImportCause objects tree_errors commit_errors hash steps done error
-  import_cause_out_of_memory hash steps done error is = rw is tt
+  module _ (commit_errors : KeepCommitErrors S) where
+    -- the cause of the step that fails is that of the import
+    pub import_cause_of_step : (old reached new : Importer S) (steps : List Step) (done : List Imported) (step : Step) (error : ImportError)
+        → slice_get steps (length done) ≡ Some step → AreImported model old (take (length done) steps) done reached
+        → HasStepCause model tree_errors commit_errors reached step error new
+        → HasImportCause model tree_errors commit_errors old steps done error new
+    import_cause_of_step old reached new steps done step (import.NotKept error) at imported cause = (step, at, reached, imported, cause)
+    import_cause_of_step old reached new steps done step import.WriteInStep at imported cause = tt
+    import_cause_of_step old reached new steps done step (import.Edit index error) at imported cause = tt
+    import_cause_of_step old reached new steps done step (import.Write error) at imported cause = tt
+    import_cause_of_step old reached new steps done step (import.Commit error) at imported cause = tt
+    import_cause_of_step old reached new steps done step import.OutOfMemory at imported cause = tt
+    import_cause_of_step old reached new steps done step import.Failed at imported cause = tt
+
+    pub import_cause_out_of_memory : (old new : Importer S) (steps : List Step) (done : List Imported) (error : ImportError)
+        → error ≡ import.OutOfMemory → HasImportCause model tree_errors commit_errors old steps done error new
+    import_cause_out_of_memory old new steps done error is = rw is tt
 
 -- the cause of a failed write is one of the write after its edits
 pub out_cause_after : {F : Type 0} (gave : F → Pair → F → Type 0) (denies : F → List EntryView → encode.Error → F → Type 0) {S : Type 0}

@@ -183,8 +183,8 @@ impl<S: Keep + KeepCommit> Importer<S> {
             IsImported (store_model S.objects S.may_fail) self.old step.now it self.new) }
         ensures after_error { IfErr result (λ error.
             IsStepError (store_model S.objects S.may_fail) self.old step.now error self.new) }
-        ensures cause { IfErr result (HasStepCause S.objects S.keep_errors S.keep_commit_errors
-            self.old.hash step.now self.old.last) }
+        ensures cause { IfErr result (λ error. HasStepCause (store_model S.objects S.may_fail)
+            S.keep_errors S.keep_commit_errors self.old step.now error self.new) }
         ensures encoding { IfErr result (HasEncodingCause self.old.hash) }
         ensures adds { AddsByDigest (S.objects self.old.editor.store)
             (S.objects self.new.editor.store) }
@@ -261,8 +261,8 @@ pub fn import_all<S: Keep + KeepCommit>(
     ensures error { IfErr result (λ it.
         Stops (store_model S.objects S.may_fail) importer.old steps.now it.done.items it.error
         importer.new) }
-    ensures cause { IfErr result (λ it. HasImportCause S.objects S.keep_errors S.keep_commit_errors
-        importer.old.hash steps.now it.done.items it.error) }
+    ensures cause { IfErr result (λ it. HasImportCause (store_model S.objects S.may_fail) S.keep_errors
+        S.keep_commit_errors importer.old steps.now it.done.items it.error importer.new) }
     ensures encoding { IfErr result (λ it. HasEncodingCause importer.old.hash it.error) }
     ensures adds { AddsByDigest (S.objects importer.old.editor.store)
         (S.objects importer.new.editor.store) }

@@ -3,7 +3,7 @@ ghost use Rattle.std.specs.Prelude.{◌∷◌, [], Contains, IfErr, IfOk};
 ghost use Rattle.gixobj_directories.specs.Calls.{IsCallableOnTrees, answered, denied};
 ghost use Rattle.gixobj_hash.specs.Hash.{IsId};
 ghost use Rattle.gixobj_import.specs.OutCauses.{HasOutCause, HasOutCauseAfter, ReturnsDigests};
-ghost use Rattle.gixobj_import.specs.StepCauses.{HasTreeCause};
+ghost use Rattle.gixobj_import.specs.StepCauses.{HasTreeCause, HasTreeCauseAfter};
 ghost use Rattle.gixobj_import.specs.Edited.{IsWriteAfter, IsWriteReplied};
 ghost use Rattle.gixobj_tree.specs.TreeEncoding.{IsDigestResult};
 ghost use Rattle.gixobj_import.specs.Steps.{HaveHex, IsStepEditsError, IsStepWriteError};
@@ -36,7 +36,8 @@ pub(crate) fn write_by_digests<S: Keep>(
     ensures root { IfOk result (λ it. HaveHex hash (it.id ∷ [])) }
     ensures error { IfErr result (λ error.
         IsStepEditsError (store_model S.objects S.may_fail) hash edits.now editor.old error editor.new) }
-    ensures cause { IfErr result (HasTreeCause S.objects S.keep_errors) }
+    ensures cause { IfErr result (λ error. HasTreeCauseAfter (store_model S.objects S.may_fail)
+        S.keep_errors hash editor.old edits.now error editor.new) }
 {
     let mut out = |tree: &Tree|
         ensures { IsDigestResult hash tree.now result }
@@ -63,7 +64,8 @@ fn write_edits<S: Keep, F: FnMut(&Tree) -> Result<ObjectId, encode::Error>>(
     ensures root { IfOk result (λ it. HaveHex hash (it.id ∷ [])) }
     ensures error { IfErr result (λ error.
         IsStepEditsError (store_model S.objects S.may_fail) hash edits.now editor.old error editor.new) }
-    ensures cause { IfErr result (HasTreeCause S.objects S.keep_errors) }
+    ensures cause { IfErr result (λ error. HasTreeCauseAfter (store_model S.objects S.may_fail)
+        S.keep_errors hash editor.old edits.now error editor.new) }
     ensures out { IfErr result (HasOutCauseAfter (answered F.FnMut) (denied F.FnMut)
         (store_model S.objects S.may_fail) editor.old edits.now out.old out.new) }
 {
@@ -89,7 +91,8 @@ fn write_and_keep<S: Keep, F: FnMut(&Tree) -> Result<ObjectId, encode::Error>>(
     ensures root { IfOk result (λ it. HaveHex hash (it.id ∷ [])) }
     ensures error { IfErr result (λ error.
         IsStepWriteError (store_model S.objects S.may_fail) hash editor.old error editor.new) }
-    ensures cause { IfErr result (HasTreeCause S.objects S.keep_errors) }
+    ensures cause { IfErr result (λ error. HasTreeCause (store_model S.objects S.may_fail)
+        S.keep_errors hash editor.old error editor.new) }
     ensures out { IfErr result (HasOutCause (answered F.FnMut) (denied F.FnMut) editor.old out.old
         out.new) }
 {

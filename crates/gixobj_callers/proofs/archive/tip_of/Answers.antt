@@ -1,7 +1,6 @@
 -- The last import of the list.
 use Rattle.std.proofs.Common.{None, subst}
 use Rattle.gix_object.specs.Imports.{AreCommitsOf, HaveFilesOfNothing}
-use Rattle.gix_object.specs.StepCauses.{HasImportCause}
 use Rattle.gix_object.specs.hash.hash.kind.Kind.{Kind}
 use Rattle.gixobj_callers.proofs.Tips.{is_tip_of_option, tip_none_iff_no_steps}
 use Rattle.gixobj_callers.proofs.archive.tip_of.Goals as goal
@@ -23,8 +22,12 @@ returns-in-Ok-clause-tip g c =
     (done.files c.new-importer.ensures.new))
 
 pub returns-clause-cause : goal.returns-clause-cause
-returns-clause-cause g c = (
-  c.in-Err.stopped.done.items,
-  subst (λ (k : Kind). HasImportCause g.S.Store.objects g.S.Keep.keep_errors g.S.KeepCommit.keep_commit_errors k c.args.steps.now
-      c.in-Err.stopped.done.items c.in-Err.stopped.error) c.new-importer.ensures.hash (c.in-Err.ensures {u = tt}).cause,
-)
+returns-clause-cause g c = record {
+  start = c.new-importer.result;
+  after = c.import_all.new.importer;
+  done = c.in-Err.stopped.done.items;
+  is_new = c.new-importer.ensures.new;
+  over = c.new-importer.ensures.store;
+  ids = c.new-importer.ensures.hash;
+  cause = (c.in-Err.ensures {u = tt}).cause;
+}

@@ -1,9 +1,9 @@
 -- An import meets its contract, after its last step and at the first that fails: for callers, by that contract alone.
-use Rattle.std.proofs.Common.{◌+◌, ◌∷◌, ◌∙◌, [], arith, ap, inr, length, refl, subst, sym, take, List}
+use Rattle.std.proofs.Common.{◌+◌, ◌∷◌, ◌∙◌, [], ℕ, arith, ap, inr, length, refl, subst, sym, take, List}
 use Rattle.std.proofs.lemmas.List.{length-append}
 use Rattle.gixobj_import.specs.Steps.{AreImported, Stops}
 use Rattle.gixobj_import.specs.declared.import.Imported.{Imported}
-use Rattle.gixobj_import.proofs.Causes.{encoding_cause_of_stopped, import_cause_of_step, import_cause_out_of_memory, imported_same_hash}
+use Rattle.gixobj_import.proofs.Causes.{encoding_cause_of_stopped, import_cause_of_step, import_cause_out_of_memory}
 use Rattle.gixobj_import.proofs.Committing.{commits_of_new}
 use Rattle.gixobj_import.proofs.Digests.{adds_by_digest_nil}
 use Rattle.gixobj_import.proofs.Filing.{files_of_new}
@@ -49,7 +49,7 @@ returns-in-Err g c =
     record {
       imported = tt;
       error = stops;
-      cause = import_cause_out_of_memory g.S.Store.objects g.S.Keep.keep_errors g.S.KeepCommit.keep_commit_errors old.hash c.args.steps.now done error
+      cause = import_cause_out_of_memory model g.S.Keep.keep_errors g.S.KeepCommit.keep_commit_errors old old c.args.steps.now done error
           c.no_list.ensures.error;
       encoding = encoding_cause_of_stopped model old c.args.steps.now done error old stops;
       adds = stopped_adds model laws old old c.args.steps.now done error stops;
@@ -80,10 +80,10 @@ returns-in-Err-step g c =
     record {
       imported = tt;
       error = stops;
-      cause = import_cause_of_step g.S.Store.objects g.S.Keep.keep_errors g.S.KeepCommit.keep_commit_errors c.args.importer.now.hash
-          c.loop-step.importer.hash c.args.steps.now done c.step-item.result c.loop-step.importer.last c.in-Err-step.error
-          (imported_same_hash model c.args.importer.now c.loop-step.importer (take c.loop-step.step-index c.args.steps.now) done inv.imported)
+      cause = import_cause_of_step model g.S.Keep.keep_errors g.S.KeepCommit.keep_commit_errors c.args.importer.now c.loop-step.importer
+          c.step.new.self c.args.steps.now done c.step-item.result c.in-Err-step.error
           (slice_get_length_of_get_or c.args.steps.now done c.loop-step.step-index c.step-item.result c.loop-step-test.true c.step-item.is inv.count)
+          (subst (λ (n : ℕ). AreImported model c.args.importer.now (take n c.args.steps.now) done c.loop-step.importer) (sym inv.count) inv.imported)
           (c.in-Err-step.ensures {u = tt}).cause;
       encoding = encoding_cause_of_stopped model c.args.importer.now c.args.steps.now done c.in-Err-step.error c.step.new.self stops;
       adds = stopped_adds model laws c.args.importer.now c.step.new.self c.args.steps.now done c.in-Err-step.error stops;

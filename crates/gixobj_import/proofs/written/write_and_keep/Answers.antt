@@ -1,6 +1,6 @@
-use Rattle.std.proofs.Common.{List, refl, subst}
+use Rattle.std.proofs.Common.{List, ap, refl, subst, ◌∙◌}
 use Rattle.gixobj_files.specs.Emission.{EmitsSome}
-use Rattle.gixobj_files.specs.State.{open_bases, open_dirs}
+use Rattle.gixobj_files.specs.State.{State, open_bases, open_dirs}
 use Rattle.gixobj_keep.specs.Keeping.{IsStoreErrorAt}
 use Rattle.gixobj_tree.specs.Entries.{Pair}
 use Rattle.gixobj_import.proofs.Calling.{stopped, written}
@@ -45,10 +45,17 @@ returns-in-Err-clause-error g c = record {
 }
 
 pub returns-in-Err-keep_all-clause-cause : goal.returns-in-Err-keep_all-clause-cause
-returns-in-Err-keep_all-clause-cause g c = (
-  c.store_mut.result.now,
-  c.in-Ok.written,
-  c.in-Err-keep_all._count,
-  subst (λ (pairs : List Pair). IsStoreErrorAt g.S.Store.objects g.S.Keep.keep_errors c.store_mut.result.now pairs c.in-Err-keep_all._count
-      c.in-Err-keep_all.error) c.deref.ensures.value (c.in-Err-keep_all.ensures {u = tt}).cause,
-)
+returns-in-Err-keep_all-clause-cause g c =
+    let model = store_model g.S.Store.objects g.S.Store.may_fail in
+    let wrote = written c.args.hash _ c.args.editor.now c.try_write.new.self c.in-Ok.written c.args.out.now
+    c.try_write.new.out c.requires.digests (c.in-Ok.ensures {u = tt}).written in (
+      c.in-Ok.written,
+      c.in-Err-keep_all._count,
+      not_kept model c.args.hash c.args.editor.now c.try_write.new.self _ c.store_mut.result.now c.keep_all.new.store c.in-Ok.written
+          c.deref.result.now wrote c.store_mut.ensures.value c.deref.ensures.value refl c.keep_all.ensures.same_may_fail c.in-Err-keep_all._count
+          c.in-Err-keep_all.error (c.in-Err-keep_all.ensures {u = tt}).error,
+      subst (λ (s : g.row.S.Denot). IsStoreErrorAt g.S.Store.objects g.S.Keep.keep_errors s c.in-Ok.written.trees.items c.in-Err-keep_all._count
+          c.in-Err-keep_all.error) (c.store_mut.ensures.value ∙ ap (λ (s : State g.row.S.Denot). s.store) wrote.rest)
+          (subst (λ (pairs : List Pair). IsStoreErrorAt g.S.Store.objects g.S.Keep.keep_errors c.store_mut.result.now pairs c.in-Err-keep_all._count
+          c.in-Err-keep_all.error) c.deref.ensures.value (c.in-Err-keep_all.ensures {u = tt}).cause),
+    )

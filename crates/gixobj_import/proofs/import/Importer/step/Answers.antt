@@ -6,6 +6,7 @@ use Rattle.gixobj_editor.specs.declared.command.Edit.{Edit}
 use Rattle.gixobj_editor.specs.declared.command.Edit.TheVariants as edit
 use Rattle.gixobj_editor.specs.declared.reply.EditReply.TheVariants as reply
 use Rattle.gixobj_import.specs.Edited.{IsWriteAfter}
+use Rattle.gixobj_import.specs.StepCauses.{HasTreeCauseAfter}
 use Rattle.gixobj_import.specs.Steps.{IsImported, IsStepEditsError}
 use Rattle.gixobj_import.specs.declared.import.Imported.{Imported}
 use Rattle.gixobj_import.specs.declared.import.Importer.{Importer}
@@ -82,7 +83,8 @@ returns-in-Err g c =
     record {
       imported = tt;
       after_error = rejected;
-      cause = inl (c.in-Err.ensures {u = tt}).cause;
+      cause = inl (subst (λ (es : List Edit). HasTreeCauseAfter model g.S.Keep.keep_errors old.hash old.editor es c.in-Err.error
+          c.write_by_digests.new.editor) c.deref-2.ensures.value (c.in-Err.ensures {u = tt}).cause);
       encoding = encoding_cause_of_step_error model old c.args.step.now c.in-Err.error new rejected;
       adds = rejected_adds model laws old new c.args.step.now c.in-Err.error rejected;
       files = tt;
@@ -102,6 +104,8 @@ returns-in-Err-kept g c =
     } in
     let old = c.args.self.now in
     let new : Importer g.row.S.Denot = record old { editor = c.keep_commit_of-kept.new.editor; failed = true } in
+    let trees = subst (λ (es : List Edit). IsWriteAfter model old.hash old.editor es (reply.Written c.in-Ok.written) c.write_by_digests.new.editor)
+    c.deref-2.ensures.value (c.in-Ok.ensures {u = tt}).written in
     let rejected = rejects_step model old new c.args.step.now c.in-Err-kept.error (record {
       ready = c.if-self.false;
       no_write = no_write_of_step c.args.step.now.edits.items c.deref.result.now c.hold_a_write.result c.deref.ensures.value c.if-hold_a_write.false
@@ -109,8 +113,7 @@ returns-in-Err-kept g c =
       cause = inr (record {
         it = c.in-Ok.written;
         between = c.write_by_digests.new.editor;
-        trees = subst (λ (es : List Edit). IsWriteAfter model old.hash old.editor es (reply.Written c.in-Ok.written) c.write_by_digests.new.editor)
-            c.deref-2.ensures.value (c.in-Ok.ensures {u = tt}).written;
+        trees = trees;
         cause = (c.in-Err-kept.ensures {u = tt}).error;
       });
       rest = refl;
@@ -118,7 +121,7 @@ returns-in-Err-kept g c =
     record {
       imported = tt;
       after_error = rejected;
-      cause = inr (c.write_by_digests.new.editor.store, c.in-Ok.written.id, (c.in-Err-kept.ensures {u = tt}).cause);
+      cause = inr (record { it = c.in-Ok.written; between = c.write_by_digests.new.editor; trees = trees; cause = (c.in-Err-kept.ensures {u = tt}).cause });
       encoding = encoding_cause_of_step_error model old c.args.step.now c.in-Err-kept.error new rejected;
       adds = rejected_adds model laws old new c.args.step.now c.in-Err-kept.error rejected;
       files = tt;
