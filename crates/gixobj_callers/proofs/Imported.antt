@@ -28,7 +28,7 @@ use Rattle.gixobj_listings.proofs.Histories.{history_append, history_congruent, 
 
 -- by the law that every store names trees
 module _ {S E : Type 0} (model : StoreModel S) (answers : Answers E) (trees_of : (objects : Objects) → (trees : Trees) × AreTreesOf objects trees) where
-  edit_stays : (old new : State S) (it : Edit) → IsEditReply model answers at_root old it edit_reply.Done new → new.store ≡ old.store
+  pub edit_stays : (old new : State S) (it : Edit) → IsEditReply model answers at_root old it edit_reply.Done new → new.store ≡ old.store
   edit_stays old new (edit.Upsert path kind id) done = let trees = trees_of (model.objects old.store) in ap (λ (s : State S). s.store)
       (done trees.0 trees.1).rest
   edit_stays old new (edit.Remove path) done = let trees = trees_of (model.objects old.store) in ap (λ (s : State S). s.store) (done trees.0 trees.1).rest

@@ -23,7 +23,7 @@ pub position_of_position_or_len : {X : Type 0} (test : X → Bool) (xs : List X)
     → position test xs ≡ Some (position_or_len test xs)
 position_of_position_or_len test xs low = grind arith
 
-position_or_len_eq_position : {E : Type 0} (replies shown : List (Reply E)) (index k : ℕ) → shown ≡ replies → Some index ≡ position is_other shown
+pub position_or_len_eq_position : {E : Type 0} (replies shown : List (Reply E)) (index k : ℕ) → shown ≡ replies → Some index ≡ position is_other shown
     → position_or_len is_other replies ≡ k → k < length replies → k ≡ index
 position_or_len_eq_position replies shown index k same found is low =
     let first : position_or_len is_other replies < length replies = rw is low in

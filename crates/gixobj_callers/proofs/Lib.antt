@@ -1,6 +1,7 @@
 mod Alone
 mod Archived
 mod Commits
+mod ImportCauses
 mod Imported
 mod Importing
 mod Listed

@@ -1,8 +1,9 @@
 -- Imports, in which edits succeed one after the other, and then a write, all of whose trees the store keeps.
-use Rattle.std.specs.Prelude.{◌≡◌, ◌++◌, ◌∷◌, ℕ, Bool, true, false, Contains, List, [], flat_map, length, map}
+use Rattle.std.specs.Prelude.{◌≡◌, ◌++◌, ◌∷◌, ℕ, Bool, true, false, Contains, List, [], flat_map, length, map, ⊤}
 use Rattle.gixobj_callers.specs.declared.importer.ImportError.{ImportError}
 use Rattle.gixobj_callers.specs.declared.importer.ImportError.TheVariants as import
-use Rattle.gix_object.specs.Stores.{StoreModel}
+use Rattle.gix_object.specs.Keeping.{IsStoreErrorAt, KeepErrors}
+use Rattle.gix_object.specs.Stores.{Objects, StoreModel}
 use Rattle.gix_object.specs.Commands.{at_root}
 use Rattle.gix_object.specs.Edited.{steps_if_done}
 use Rattle.gix_object.specs.History.{Step}
@@ -71,3 +72,10 @@ module _ {S E : Type 0} (model : StoreModel S) (answers : Answers E) where
   FailsImport old edits (import.NotKept written count error) new =
       HasWriteReply old edits (edit_reply.NotKept written count error) new
   FailsImport old edits import.OutOfMemory new = new ≡ old
+
+-- NotKept: the cause is an error of this store for the first emitted tree that isn't kept, after those before it are
+-- kept
+abbrev pub HasImportCauseIn : {S E : Type 0} → (S → Objects) → KeepErrors S → S → ImportError E → Type 0
+HasImportCauseIn objects errors store (import.NotKept written count error) =
+    IsStoreErrorAt objects errors store written.trees.items count error
+HasImportCauseIn objects errors store other = ⊤

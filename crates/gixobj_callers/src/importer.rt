@@ -2,6 +2,7 @@
 ghost use Rattle.std.specs.Prelude.{◌≡◌, ◌↔◌, ℕ, Contains, Err, IfErr, IfOk, IsTrue, OnErr, not, position};
 ghost use Rattle.std.specs.Fn.{FnReturnsAt};
 ghost use Rattle.gix_object.specs.Bases.{HasBases};
+ghost use Rattle.gix_object.specs.Causes.{HasKeepCause};
 ghost use Rattle.gix_object.specs.Files.{NamedFiles, SameFiles, Table};
 ghost use Rattle.gix_object.specs.History.{FilesAfter};
 ghost use Rattle.gix_object.specs.Keeping.{with_trees};
@@ -9,7 +10,7 @@ ghost use Rattle.gix_object.specs.Replies.{IsCallable};
 ghost use Rattle.gix_object.specs.RunTables.{AgreesWithObjects};
 ghost use Rattle.gix_object.specs.State.{EditorFiles, open_bases, open_dirs};
 ghost use Rattle.gix_object.specs.Tables.{AgreesWithPairs};
-ghost use Rattle.gixobj_callers.specs.Imports.{Decides, FailsImport, HasWriteReply, edits_and_write, import_steps, is_done};
+ghost use Rattle.gixobj_callers.specs.Imports.{Decides, FailsImport, HasImportCauseIn, HasWriteReply, edits_and_write, import_steps, is_done};
 ghost use Rattle.gix_object.specs.Stores.{store_model};
 
 use gix_object::hash::{Kind, ObjectId};
@@ -81,7 +82,7 @@ impl<E> From<OutOfMemory> for ImportError<E> {
 /// - [`ImportError::Edit`] with index and error, for the first edit that fails; the others and the write are
 ///   still tried;
 /// - [`ImportError::Write`] with the error of the write, if it fails;
-/// - [`ImportError::NotKept`] with result, count and error, if the store doesn't keep all emitted trees;
+/// - [`ImportError::NotKept`] with result, count and the store's error, if it doesn't keep all emitted trees;
 /// - [`ImportError::OutOfMemory`] if allocation of the commands or of the list of their replies fails.
 ///
 /// The editor is unchanged after the first and the last.
@@ -111,6 +112,7 @@ pub fn import_files<S: Keep, E: Drop, F: Fn(&Tree) -> Result<ObjectId, E> + Drop
     ensures error { IfErr result (λ error.
         FailsImport (store_model S.objects S.may_fail) (FnReturnsAt F.Fn out) editor.old edits.items
         error editor.new) }
+    ensures cause { IfErr result (HasImportCauseIn S.objects S.keep_errors editor.old.store) }
     ensures holds_write { (result ≡ Err ImportError.HoldsWrite) ↔ Contains edits.items Edit.Write }
 {
     store_has_tree_map();
@@ -144,8 +146,10 @@ fn deciding_reply<S: Keep, E: Drop, F: Fn(&Tree) -> Result<ObjectId, E> + Drop>(
     ensures decides { IfOk result (λ it.
         Decides (store_model S.objects S.may_fail) (FnReturnsAt F.Fn out) editor.old edits.items it.0
         it.1 editor.new) }
+    ensures cause { IfOk result (λ it. HasKeepCause S.objects S.keep_errors editor.old.store it.1) }
     ensures no_effect { OnErr result (editor.new ≡ editor.old) }
 {
+    store_has_tree_map();
     let commands = commands_of(alloc, edits)?;
     let mut replies = run(alloc, editor, commands, out)?;
     let Some(index) = position_of_reply(&replies) else {

@@ -1,7 +1,9 @@
 -- The files and the store after the write that follows the edits, and the reply that decides.
-use Rattle.std.proofs.Common.{List, Result}
+use Rattle.std.proofs.Common.{List, Result, subst}
 use Rattle.std.specs.Fn.{FnReturnsAt}
+use Rattle.gix_object.specs.Causes.{HasKeepCause}
 use Rattle.gix_object.specs.Entries.{EntryView}
+use Rattle.gix_object.specs.editor.reply.EditReply.{EditReply}
 use Rattle.gix_object.specs.editor.reply.EditReply.TheVariants as edit_reply
 use Rattle.gix_object.specs.hash.hash.object_id.ObjectId.{ObjectId}
 use Rattle.gixobj_callers.proofs.Imported.{all_kept, bases_remaining, decides_of_eq, files_remaining, named_files, write_done}
@@ -70,3 +72,8 @@ returns-in-NotKept-clause-error g c =
     let answers = λ (tree : List EntryView) (answer : Result ObjectId g.row.E.Denot). FnReturnsAt g.F.Fn c.args.out tree answer in
     decides_of_eq model answers c.store_has_tree_map.ensures c.args.editor.now c.deciding_reply.new.editor c.args.edits.items c.in_ok-index.index
     c.in_ok-index.reply (edit_reply.NotKept c.in-NotKept.written c.in-NotKept.count c.in-NotKept.error) (c.in_ok-index.ensures {u = tt}).decides c.in-NotKept.is
+
+pub returns-in-NotKept-clause-cause : goal.returns-in-NotKept-clause-cause
+returns-in-NotKept-clause-cause g c =
+    subst (λ (it : EditReply g.row.E.Denot). HasKeepCause g.S.Store.objects g.S.Keep.keep_errors c.args.editor.now.store it) c.in-NotKept.is
+    (c.in_ok-index.ensures {u = tt}).cause
