@@ -14,6 +14,7 @@ use Rattle.gixobj_signature.specs.declared.signature.sign.Error.{Error}
 use Rattle.gixobj_signature.specs.declared.signature.sign.Options.{Options}
 use Rattle.gixobj_tokens.specs.TagSignatures as tags
 use Rattle.gixobj_tag.specs.TagSigning as tag
+use Rattle.gixobj_text.specs.Markers.{HasNoMarker}
 use Rattle.gixobj_tag.specs.TagFormat.{TagLines}
 use Rattle.gixobj_tag.specs.TagViews as tag_views
 use Rattle.gixobj_tag.specs.TagWriting.{encode_tag}
@@ -22,9 +23,9 @@ use Rattle.gixobj_tokens.specs.CommitSignatures as commits
 use Rattle.gixobj_codec.proofs.CommitsExtracted.{payload_extracted}
 use Rattle.gixobj_codec.proofs.ReceivedCommits.{signature_of_decoded}
 use Rattle.gixobj_codec.proofs.SignaturesFound.{signature_is_there}
-use Rattle.gixobj_codec.proofs.TagsExtracted.{signed_data_is_payload_of_tag}
+use Rattle.gixobj_codec.proofs.TagsExtracted.{signed_data_is_payload_of_tag, signed_tag_has_marker}
 use Rattle.gixobj_codec.specs.LineFields.{HasHeaderNames, HasLineFields}
-use Rattle.gixobj_codec.specs.SignedEncodings.{CommitPayloadIsSigned, FindsSigned, TagPayloadIsSigned, decoded_value}
+use Rattle.gixobj_codec.specs.SignedEncodings.{CommitPayloadIsSigned, FindsSigned, FindsTagSignature, TagPayloadIsSigned, decoded_value}
 
 module _ {S : Type 0} (runs : S → CallView → Answer → S → Type 0) (options : Options) (old new : S) where
   module _ (it : Commit) (fields : RejectsNothing (IsOwnedCommitError it) → HasLineFields (commit_views.owned_commit_lines it)) where
@@ -63,6 +64,17 @@ module _ {S : Type 0} (runs : S → CallView → Answer → S → Type 0) (optio
         let same : payload ≡ commit.payload_of_commit (id_kind it.tree) (commit_views.owned_commit_lines it) =
         payload_extracted (id_kind it.tree) (commit_views.owned_commit_lines it) is.bytes named (fields is.writable) value payload again in
         (is.bytes, subst (λ (signs : List ℕ). CarriesOut runs (sign_plan (sign_options_view options) signs) old (signature is.bytes) new) (sym same) is.called)
+
+  pub tag_found : (it : Tag) (result : Result Tag Error) → IfOk result (tag.IsSignedTag runs options it old new)
+      → IfOk result (λ signed. FindsTagSignature runs options (encode_tag (tag_views.owned_tag_lines signed)) old new)
+  tag_found it (Err error) is = tt
+  tag_found it (Ok signed) is = (
+    is.bytes,
+    tag.payload_of_tag (tag_views.owned_tag_lines it),
+    is.called,
+    λ marker none. signed_tag_has_marker (tag_views.owned_tag_lines it) is.bytes marker
+        (subst (λ (lines : TagLines). HasNoMarker (encode_tag lines)) is.lines none),
+  )
 
   pub tag_payload : (it : Tag) (result : Result Tag Error) → IfOk result (tag.IsSignedTag runs options it old new)
       → IfOk result (λ signed. TagPayloadIsSigned runs options (encode_tag (tag_views.owned_tag_lines signed)) old new)

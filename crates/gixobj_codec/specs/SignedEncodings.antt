@@ -8,6 +8,7 @@ use Rattle.gixobj_signature.specs.Plans.{CarriesOut}
 use Rattle.gixobj_signature.specs.Signing.{sign_options_view, sign_plan, signature}
 use Rattle.gixobj_signature.specs.declared.signature.sign.Options.{Options}
 use Rattle.gixobj_codec.specs.OneMarker.{HasOneMarker}
+use Rattle.gixobj_text.specs.Markers.{HasNoMarker}
 use Rattle.gixobj_text.specs.declared.signature.Format.{Format}
 use Rattle.gixobj_tokens.specs.TagSignatures as tags
 use Rattle.gixobj_tokens.specs.CommitSignatures as commits
@@ -32,6 +33,12 @@ abbrev pub CommitPayloadIsSigned : {S : Type 0} → (S → CallView → Answer �
     → Type 0
 CommitPayloadIsSigned runs options kind content old new = (value payload : List ℕ)
     → commits.HasCommitSignature kind content value payload → WasSigned runs options payload old new
+
+-- the signer returned these bytes; if they begin with their one marker, a signature is found in the tag's encoding
+abbrev pub FindsTagSignature : {S : Type 0} → (S → CallView → Answer → S → Type 0) → Options → List ℕ → S → S → Type 0
+FindsTagSignature runs options content old new = (bytes payload : List ℕ)
+    × CarriesOut runs (sign_plan (sign_options_view options) payload) old (signature bytes) new
+    × (HasOneMarker bytes → ¬ HasNoMarker content)
 
 -- the signer returned these bytes for the payload; if they begin with their one marker, the tag's encoding has this
 -- payload and signature

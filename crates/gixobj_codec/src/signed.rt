@@ -12,7 +12,7 @@ ghost use Rattle.gixobj_line.specs.Commit.{CommitLines, DecodesToCommit, IsCommi
 ghost use Rattle.gixobj_codec.specs.SameSignatures.{AreTheSame};
 ghost use Rattle.gixobj_codec.specs.LineFields.{HasHeaderNames, HasLineFields};
 ghost use Rattle.gixobj_codec.specs.OneMarker.{HasOneMarker};
-ghost use Rattle.gixobj_codec.specs.SignedEncodings.{CommitPayloadIsSigned, FindsSigned, TagPayloadIsSigned, decoded_value};
+ghost use Rattle.gixobj_codec.specs.SignedEncodings.{CommitPayloadIsSigned, FindsSigned, FindsTagSignature, TagPayloadIsSigned, decoded_value};
 ghost use Rattle.gixobj_text.specs.Markers.{HasNoMarker};
 ghost use Rattle.gixobj_text.specs.declared.signature.Format.{Format};
 ghost use Rattle.gixobj_text.specs.declared.signature.SignatureRef.{SignatureRef};
@@ -120,7 +120,7 @@ pub fn tag_payloads_are_signed()
 
 /// Signs a tag by [`Tag::sign`].
 ///
-/// If the signer's bytes begin with their one marker, the signature that is found in the encoding is these
+/// If the signer's bytes begin with their one marker, a signature is found in the encoding, and it is these
 /// bytes. The payload that is found with it is the one that the signer got. Allocates what [`Tag::sign`]
 /// allocates.
 ///
@@ -135,6 +135,8 @@ pub fn signed_tag_has_payload<R: Runner>(
 ) -> Result<Tag, Error>
     ensures signed { IfOk result (tag_signing.IsSignedTag R.runs options tag runner.old runner.new) }
     ensures error { IfErr result (tag_signing.IsTagSigningError R.runs options tag runner.old runner.new) }
+    ensures found { IfOk result (λ signed. FindsTagSignature R.runs options
+        (encode_tag (tag_views.owned_tag_lines signed)) runner.old runner.new) }
     ensures payload { IfOk result (λ signed. TagPayloadIsSigned R.runs options
         (encode_tag (tag_views.owned_tag_lines signed)) runner.old runner.new) }
 {
