@@ -31,6 +31,12 @@ at bak write
 write
 ";
 
+/// A write of a directory of two files by its cursor.
+const WRITE_BY_CURSOR: &str = "upsert blob 83baae61804e65cc73a7201a7252750c76066a30 bak/test.txt
+upsert blob 1f7a7a472abf3dd9643fd615f6da379c4acb3e3a bak/more
+at bak write
+";
+
 /// A file is inserted into a stored directory.
 const AT_THE_FIRST: &str = "upsert blob 0101010101010101010101010101010101010101 a/b/c
 write
@@ -435,4 +441,33 @@ fn keeps_first_tree_if_second_fails(rt: HostRuntime) {
     assert!(rt; is_looked_up(rt.alloc(), &mut editor));
     assert!(rt; editor.lookups() == 1);
     assert!(rt; editor.store_mut().lookups() == 3);
+}
+
+/// Returns whether the reply is that of one emitted tree, which the store didn't keep, with its error.
+fn is_not_kept(reply: Option<&EditReply<encode::Error>>, id: &str) -> bool {
+    match reply {
+        Some(EditReply::NotKept(written, count, KeepError::Store(message))) => {
+            has_id_and_count(written, id, 1) && *count == 0 && message.as_bytes() == OFFLINE
+        }
+        _ => false,
+    }
+}
+
+/// Returns whether the script [`WRITE_BY_CURSOR`] ends with a directory that isn't kept.
+fn is_stopped_by_cursor(alloc: Global, editor: &mut Editor<Failing>) -> bool {
+    let Some(replies) = replies_to(alloc, editor, WRITE_BY_CURSOR) else {
+        return false;
+    };
+    match replies.last() {
+        Some(Reply::At(replies)) => {
+            is_not_kept(replies.last(), "21d32280ec25095dcf1a389927245f7b082b590b")
+        }
+        _ => false,
+    }
+}
+
+#[test]
+fn returns_store_error_of_write_by_cursor(rt: HostRuntime) {
+    let mut editor = editor_over(rt.alloc(), &[], &[1]);
+    assert!(rt; is_stopped_by_cursor(rt.alloc(), &mut editor));
 }
