@@ -1,3 +1,5 @@
+-- The position of the item of a name and kind: in the first piece, in another, or past the last item. They are the
+-- clauses of `position_of`.
 use Rattle.std.proofs.Common.{◌≡◌, ◌∙◌, ◌-◌, ◌<◌, Some, suc, length, refl, sym, ap, subst, arith, rules}
 use Rattle.std.specs.List.{HoldsAt, find, position}
 use Rattle.std.proofs.lemmas.List.{get_or_default}
