@@ -1,4 +1,5 @@
--- What a descent along open directories leaves open, and what changes once the directories above are restored.
+-- What a descent along open directories leaves open, and what changes once the directories above are restored; used
+-- for openings, edits and writes by value.
 use Rattle.std.proofs.Common.{◌≡◌, ◌≢◌, ◌<◌, ◌+◌, ◌∙◌, ℕ, true, false, cond, List, [], ◌∷◌, ◌++◌, Some, get_or, length, take, refl, sym, ap, subst, arith}
 use Rattle.std.specs.Prelude.{reverse}
 use Rattle.std.specs.Cmp.Lexicographic.{bytes_decides}

@@ -1,3 +1,5 @@
+-- The loop that opens the directories on a path and enters each, and its returns: at the end of the path, at an entry
+-- that ends the opening, and at a failed lookup. They are the clauses of `open_and_enter`.
 use Rattle.std.proofs.Common.{◌≡◌, ◌∙◌, ◌+◌, ◌≤◌, ℕ, List, [], ◌∷◌, None, refl, sym, ap, subst, take, drop, length, arith}
 use Rattle.std.specs.Prelude.{reverse}
 use Rattle.std.proofs.lemmas.List.{take_all}

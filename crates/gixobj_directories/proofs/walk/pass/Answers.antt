@@ -1,3 +1,5 @@
+-- What passing an entry emits: nothing for one without an open directory, the tree of a leaf, or nothing yet for one
+-- whose directory begins. They are the clauses of `pass`.
 use Rattle.std.proofs.Common.{◌≡◌, ◌≢◌, ◌∙◌, ℕ, [], ◌∷◌, ◌++◌, List, Option, Some, None, Ok, Err, refl, sym, ap, subst, append-nil}
 use Rattle.std.specs.Fn.{CalledAt}
 use Rattle.std.specs.Option.{option_copied}
