@@ -23,7 +23,8 @@ class Here:
     def __init__(self):
         import cinguepo
 
-        self.lib, self.version = cinguepo, "(`cinguepo`)"
+        self.lib, self.has_encoder = cinguepo, "gixobj_reencode" in cinguepo.LIBRARIES
+        self.version = "(`cinguepo`)" if self.has_encoder else "(`cinguepo`, without new encodings)"
 
     def decode(self, kind, data):
         if not self.lib.check(KINDS[kind], data):
@@ -34,7 +35,8 @@ class Here:
         except self.lib.MalformedError:
             disagree(kind, data)
         try:
-            found["new encoding"] = self.lib.reencode(KINDS[kind], data)
+            if self.has_encoder:
+                found["new encoding"] = self.lib.reencode(KINDS[kind], data)
         except self.lib.NotEncodableError:
             found["new encoding"] = None
         return found

@@ -1,6 +1,7 @@
 /* Calls each function once, and compares with what git prints. Prints `ok`, or what differs, with status 1. */
 #include "gixobj.h"
 #include "gixobj_edit.h"
+#include "gixobj_reencode.h"
 #include <stdio.h>
 #include <string.h>
 

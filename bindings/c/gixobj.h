@@ -1,4 +1,4 @@
-/* Proved decoders of git's objects: ids, checks, and the parts of commits, trees and tags.
+/* Proved decoders of git's objects: ids, checks, and the parts of commits, trees and tags. The library is gixobj_c.
  *
  * Each call is pure. It reads its input, writes through its last parameters, keeps nothing, and returns nothing that is
  * to be freed. Calls may run at the same time. No call aborts, prints or waits.
@@ -60,13 +60,6 @@ uint32_t gixobj_verify(uint8_t hash, uint8_t kind, const uint8_t *content, size_
 /* Checks whether the bytes are the encoding of an object of this kind. All bytes are the encoding of a blob. The order
  * and the names of a tree's entries are not checked. DONE, MALFORMED, UNKNOWN_CODE. Allocates nothing. */
 uint32_t gixobj_check(uint8_t hash, uint8_t kind, const uint8_t *bytes, size_t bytes_len);
-
-/* Decodes an object, and writes its new encoding. It differs from the bytes only in the case of ids in hex, and in what
- * the library documents. *out_len is the length of the encoding, also if the buffer is too short.
- * DONE, MALFORMED, OUT_OF_MEMORY (not of a blob, nor of a tree without entries), UNKNOWN_CODE, BUFFER_TOO_SHORT,
- * NOT_ENCODABLE. Allocates, but for these two. */
-uint32_t gixobj_reencode(uint8_t hash, uint8_t kind, const uint8_t *bytes, size_t bytes_len, uint8_t *out,
-                         size_t out_size, size_t *out_len);
 
 /* Decodes the header of a loose object, decompressed: `<kind> <size>` and a zero byte. len is the length of the header.
  * DONE, MALFORMED (no space or no zero byte), UNKNOWN_KIND, INVALID_SIZE. Allocates nothing. */

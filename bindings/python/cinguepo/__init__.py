@@ -1,20 +1,23 @@
-"""Proved decoders of git's objects: a module over the static libraries gixobj_c and gixobj_edit, by ctypes alone.
+"""Proved decoders of git's objects: a module over the static libraries gixobj_c, gixobj_reencode and gixobj_edit, by
+ctypes alone.
 
-Input is `bytes`, which the library reads in place. Parts of objects are slices of it.
+Input is `bytes`, which the library reads in place. Parts of objects are slices of it. `LIBRARIES` are the names of the
+static libraries that are there: `reencode` and `edit` raise MissingLibraryError without theirs.
 """
 from ctypes import Array, byref, c_size_t, c_uint64, create_string_buffer
 from enum import IntEnum
 from typing import Callable, Iterable, Iterator, NamedTuple, Optional
 
 from . import _library as raw
-from ._library import Error, InvalidSizeError, MalformedError, MissingTreeError, NotEncodableError, ScriptError
-from ._library import UnknownCodeError, UnknownKindError
+from ._library import LIBRARIES, Error, InvalidSizeError, MalformedError, MissingLibraryError, MissingTreeError
+from ._library import NotEncodableError, ScriptError, UnknownCodeError, UnknownKindError
 from ._library import error_of, lib, plain
 
 __all__ = [
-    "Actor", "Entry", "Error", "Hash", "InvalidSizeError", "Kind", "MalformedError", "MissingTreeError",
-    "NotEncodableError", "ScriptError", "UnknownCodeError", "UnknownKindError", "actor", "check", "commit_header",
-    "commit_signature", "edit", "entries", "loose_header", "message", "object_id", "reencode", "summary", "tag_signature", "tag_tokens", "tokens", "trailers", "unfold", "verify",
+    "LIBRARIES", "Actor", "Entry", "Error", "Hash", "InvalidSizeError", "Kind", "MalformedError", "MissingLibraryError",
+    "MissingTreeError", "NotEncodableError", "ScriptError", "UnknownCodeError", "UnknownKindError", "actor", "check",
+    "commit_header", "commit_signature", "edit", "entries", "loose_header", "message", "object_id", "reencode",
+    "summary", "tag_signature", "tag_tokens", "tokens", "trailers", "unfold", "verify",
 ]
 
 
@@ -177,7 +180,7 @@ def _with_buffers(call: Callable[..., int], sizes: list[int]) -> Optional[list[b
 
 
 def reencode(kind: int, data: bytes, hash: int = Hash.SHA1) -> bytes:
-    """The encoding that the library gives to the decoded object."""
+    """The encoding that the library gives to the decoded object. Needs gixobj_reencode."""
     found = _with_buffers(lambda *out: lib.gixobj_reencode(hash, kind, plain(data), len(data), *out), [len(data)])
     assert found
     return found[0]
@@ -244,7 +247,7 @@ def edit(
     hash: int = Hash.SHA1,
 ) -> tuple[str, list[bytes]]:
     """Runs a script on the root with this id in hex, then writes the root. Returns its id, and the new trees, in the
-    order in which the writes emit them, the root last.
+    order in which the writes emit them, the root last. Needs gixobj_edit.
 
     A tree that `trees` lacks is looked up by `find`; without it, MissingTreeError is raised. The lines of the script are
     `upsert KIND ID PATH`, `remove PATH`, `leaf PATH`, `write`, `root` and `at PREFIX LINE`, as `gixobj help` describes

@@ -1,7 +1,8 @@
-"""The shared library of gixobj_c and gixobj_edit: its structs, its declarations and its errors."""
+"""The shared library of gixobj_c, gixobj_reencode and gixobj_edit: its structs, its declarations and its errors."""
 import ctypes
 import os
 from ctypes import POINTER, Structure, c_char_p, c_int32, c_int64, c_size_t, c_uint8, c_uint32, c_uint64
+from typing import Callable
 
 DONE, AT_END, MALFORMED, OUT_OF_MEMORY, UNKNOWN_CODE, BUFFER_TOO_SHORT, BAD_OFFSET = range(7)
 UNKNOWN_KIND, INVALID_SIZE, NOT_FOUND, NOT_ENCODABLE, MISMATCH = range(7, 12)
@@ -72,6 +73,14 @@ class UnknownCodeError(Error, ValueError):
     """The number of a hash function or a kind is unknown."""
 
 
+class MissingLibraryError(Error, NotImplementedError):
+    """The shared library was built without this static library, which has the call."""
+
+    def __init__(self, library: str):
+        super().__init__(f"libcinguepo.so has no {library}: `make -C bindings/python` builds one that has it")
+        self.library = library
+
+
 class MissingTreeError(Error, LookupError):
     """The tree with this id, in hex, is missing."""
 
@@ -134,22 +143,33 @@ FUNCTIONS = {
 }
 
 
-def _without_editor(*_: object) -> int:
-    raise NotImplementedError("libcinguepo.so has no editor: `make -C bindings/python` builds one that has")
+# static libraries that may be missing: each has one call, with its own name
+OPTIONAL = ("gixobj_reencode", "gixobj_edit")
 
 
-def _load() -> ctypes.CDLL:
+def _missing(library: str) -> Callable[..., int]:
+    """A call that raises MissingLibraryError."""
+
+    def call(*_: object) -> int:
+        raise MissingLibraryError(library)
+
+    return call
+
+
+def _load() -> tuple[ctypes.CDLL, tuple[str, ...]]:
+    """The shared library, and the static libraries that it has."""
     folder = os.path.dirname(os.path.abspath(__file__))
     lib = ctypes.CDLL(os.environ.get("CINGUEPO_LIB", os.path.join(folder, "libcinguepo.so")))
-    if not hasattr(lib, "gixobj_edit"):
-        lib.gixobj_edit = _without_editor
+    missing = [name for name in OPTIONAL if not hasattr(lib, name)]
+    for name in missing:
+        setattr(lib, name, _missing(name))
     for name, types in FUNCTIONS.items():
         call = getattr(lib, name)
         call.argtypes, call.restype = types, c_uint32
-    return lib
+    return lib, ("gixobj_c", *(name for name in OPTIONAL if name not in missing))
 
 
-lib = _load()
+lib, LIBRARIES = _load()
 
 
 def plain(data: bytes) -> bytes:

@@ -1,4 +1,7 @@
-"""The audit of a repository: the id, the encoding and the new encoding of each object, beside git fsck."""
+"""The audit of a repository: the id, the encoding and the new encoding of each object, beside git fsck.
+
+New encodings are compared if the library has gixobj_reencode.
+"""
 import collections
 import re
 import subprocess
@@ -6,8 +9,10 @@ import sys
 import time
 from typing import Iterator
 
-from . import Hash, Kind, MalformedError, NotEncodableError, check, entries, reencode, tokens, verify
+from . import LIBRARIES, Hash, Kind, MalformedError, MissingLibraryError, NotEncodableError
+from . import check, entries, reencode, tokens, verify
 
+HAS_ENCODER = "gixobj_reencode" in LIBRARIES
 KINDS = {b"commit": Kind.COMMIT, b"tree": Kind.TREE, b"blob": Kind.BLOB, b"tag": Kind.TAG}
 
 
@@ -51,7 +56,7 @@ def is_valid_by_parts(kind: Kind, data: bytes, hash: Hash) -> bool:
 
 
 def faults(oid: str, kind: Kind, data: bytes, hash: Hash) -> list[str]:
-    """The faults of an object: none if it has its id, decodes, and re-encodes identically."""
+    """The faults of an object: none if it has its id, decodes, and re-encodes identically, where that is compared."""
     found = [] if verify(kind, data, oid, hash) else ["another id"]
     is_valid = check(kind, data, hash)
     if kind in (Kind.COMMIT, Kind.TREE) and is_valid_by_parts(kind, data, hash) != is_valid:
@@ -59,7 +64,7 @@ def faults(oid: str, kind: Kind, data: bytes, hash: Hash) -> list[str]:
     if not is_valid:
         return found + ["malformed"]
     try:
-        if reencode(kind, data, hash) != data:
+        if HAS_ENCODER and reencode(kind, data, hash) != data:
             found.append("re-encodes differently")
     except NotEncodableError:
         found.append("not encodable")
@@ -67,10 +72,13 @@ def faults(oid: str, kind: Kind, data: bytes, hash: Hash) -> list[str]:
 
 
 def audit(folder: str) -> int:
-    """Prints each object with a fault, and counts. The status is 1 if an id differs or two calls disagree."""
+    """Prints each object with a fault, then a line of counts, which also says if encodings weren't compared. The status
+    is 1 if an id differs or two calls disagree."""
     command = ["git", "-C", folder, "rev-parse", "--show-object-format"]
-    format = subprocess.run(command, capture_output=True, check=False).stdout.strip()
-    hash = Hash.SHA256 if format == b"sha256" else Hash.SHA1
+    done = subprocess.run(command, capture_output=True, check=False)
+    if done.returncode:
+        sys.exit(f"cinguepo: {done.stderr.decode(errors='replace').strip()}")
+    hash = Hash.SHA256 if done.stdout.strip() == b"sha256" else Hash.SHA1
     reports, counts, size, status = reports_of_fsck(folder), collections.Counter(), 0, 0
     start = shown = time.monotonic()
     for oid, word, data in objects(folder):
@@ -90,5 +98,6 @@ def audit(folder: str) -> int:
             print(f"\r{sum(counts.values())} objects", end="\r", file=sys.stderr)
     seconds = time.monotonic() - start
     names = ", ".join(f"{count} {name}" for name, count in counts.items())
-    print(f"{folder}: {names}; {size / 1e6:.1f} MB in {seconds:.2f} s")
+    note = "" if HAS_ENCODER else f"; encodings weren't compared: {MissingLibraryError('gixobj_reencode')}"
+    print(f"{folder}: {names}; {size / 1e6:.1f} MB in {seconds:.2f} s{note}")
     return status

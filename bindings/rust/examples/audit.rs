@@ -1,4 +1,4 @@
-//! Audits the objects of a repository: `cargo run --example audit -- REPOSITORY`.
+//! Audits the objects of a repository: `cargo run --example audit -- REPOSITORY`. It needs `gixobj_c` alone.
 use cinguepo::{HashKind, Kind, check, verify};
 use std::io::{BufRead, BufReader, Read};
 use std::process::{Command, Stdio};

@@ -1,12 +1,19 @@
-//! Proved decoders of git's objects: safe Rust over the static libraries `gixobj_c` and `gixobj_edit`.
+//! Proved decoders of git's objects: safe Rust over the static libraries `gixobj_c`, `gixobj_reencode` and
+//! `gixobj_edit`.
 //!
 //! Nothing is kept between two calls. Slices in results borrow the input.
+//!
+//! The features `reencode` and `edit`, both on by default, have the calls of these names. Without them `gixobj_c` is
+//! enough.
 #![deny(unsafe_op_in_unsafe_fn, missing_docs)]
 
 mod actors;
 mod buffers;
 mod commits;
+#[cfg(feature = "edit")]
 mod edits;
+#[cfg(feature = "reencode")]
+mod encodings;
 mod error;
 mod messages;
 mod objects;
@@ -16,10 +23,13 @@ mod trees;
 
 pub use actors::{Actor, actor};
 pub use commits::{Token, Tokens, commit_header, tokens, unfold};
+#[cfg(feature = "edit")]
 pub use edits::{EditError, Edited, edit};
+#[cfg(feature = "reencode")]
+pub use encodings::reencode;
 pub use error::Error;
 pub use messages::{commit_signature, message, summary, tag_signature, trailer};
-pub use objects::{HashKind, Id, Kind, check, id, loose_header, reencode, verify};
+pub use objects::{HashKind, Id, Kind, check, id, loose_header, verify};
 pub use tags::{TagToken, TagTokens, tag_tokens};
 pub use trees::{Entries, Entry, all_entries, entries};
 

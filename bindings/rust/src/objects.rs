@@ -1,5 +1,4 @@
-//! Ids, checks and new encodings of entire objects.
-use crate::buffers::with_buffers;
+//! Ids and checks of entire objects, and loose headers.
 use crate::{Error, raw};
 use std::fmt;
 
@@ -127,30 +126,6 @@ pub fn check(hash: HashKind, kind: Kind, bytes: &[u8]) -> Result<(), Error> {
         0 => Ok(()),
         status => Err(Error::of_status(status)),
     }
-}
-
-/// Decodes an object, and returns its new encoding.
-///
-/// # Errors
-///
-/// [`Error::Malformed`], [`Error::NotEncodable`], or [`Error::OutOfMemory`], but not of a blob or a tree without entries.
-pub fn reencode(hash: HashKind, kind: Kind, bytes: &[u8]) -> Result<Vec<u8>, Error> {
-    let found = with_buffers(|[out], [len]| {
-        // SAFETY: as in `id`.
-        unsafe {
-            raw::gixobj_reencode(
-                hash as u8,
-                kind as u8,
-                bytes.as_ptr(),
-                bytes.len(),
-                out.as_mut_ptr(),
-                out.len(),
-                len,
-            )
-        }
-    })?;
-    let [out] = found.expect("an encoding");
-    Ok(out)
 }
 
 /// Decodes the loose header at the beginning of the input: the kind, the size, and the length of the header.

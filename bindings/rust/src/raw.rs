@@ -1,4 +1,4 @@
-//! The declarations of the static library, by hand. A slice is a pointer and a length.
+//! The declarations of the static libraries, by hand. A slice is a pointer and a length.
 
 #[repr(C)]
 #[derive(Clone, Copy, Default)]
@@ -85,6 +85,7 @@ unsafe extern "C" {
         id_len: usize,
     ) -> u32;
     pub fn gixobj_check(hash: u8, kind: u8, bytes: *const u8, len: usize) -> u32;
+    #[cfg(feature = "reencode")]
     pub fn gixobj_reencode(
         hash: u8,
         kind: u8,
@@ -167,6 +168,7 @@ unsafe extern "C" {
         signed_size: usize,
         signed_len: *mut usize,
     ) -> u32;
+    #[cfg(feature = "edit")]
     pub fn gixobj_edit(
         hash: u8,
         trees: *const u8,

@@ -1,0 +1,64 @@
+"""Tests a shared library of these static libraries, and of no other one: test_libraries.py NAME.."""
+import os
+import shutil
+import subprocess
+import sys
+import tempfile
+
+import cinguepo as g
+
+EMPTY = "4b825dc642cb6eb9a060e54bf8d69288fbee4904"
+WHO = b" A <a@b> 0 +0000\n"
+COMMIT = b"tree " + EMPTY.upper().encode() + b"\nauthor" + WHO + b"committer" + WHO + b"\nm\n"
+NAMES = sys.argv[1:]
+CALLS = {
+    "gixobj_reencode": lambda: g.reencode(g.Kind.COMMIT, COMMIT) == COMMIT.replace(EMPTY.upper().encode(), EMPTY.encode()),
+    "gixobj_edit": lambda: g.edit(EMPTY, b"")[0] == EMPTY,
+}
+HOW = "libcinguepo.so has no {}: `make -C bindings/python` builds one that has it"
+
+
+def test_calls():
+    """A call of a missing library raises the error that says how to build it."""
+    assert sorted(g.LIBRARIES) == sorted(NAMES)
+    assert g.object_id(g.Kind.BLOB, b"hello\n") == "ce013625030ba8dba906f756967f9e9ca394464a"
+    for name, call in CALLS.items():
+        try:
+            assert call() and name in NAMES
+        except g.MissingLibraryError as error:
+            assert name not in NAMES and error.library == name and str(error) == HOW.format(name)
+
+
+def test_audit():
+    """The audit reports a malformed commit, and one that re-encodes differently. Without gixobj_reencode its last line says
+    how to compare encodings."""
+    if not shutil.which("git"):
+        return
+    with tempfile.TemporaryDirectory() as folder:
+
+        def git(*words, data=b""):
+            done = subprocess.run(["git", *words], cwd=folder, input=data, capture_output=True, check=True)
+            return done.stdout.decode().strip()
+
+        command = [sys.executable, "-m", "cinguepo", "audit", folder]
+        top = os.path.dirname(os.path.abspath(__file__))
+        assert subprocess.run(command, cwd=top, capture_output=True, check=False).returncode == 1, "no repository"
+        git("init", "-q")
+        commit, malformed = (git("hash-object", "-w", "--literally", "-t", "commit", "--stdin", data=data)
+                             for data in (COMMIT, COMMIT[:60]))
+        done = subprocess.run(command, cwd=top, capture_output=True, check=True, text=True)
+    *faults, last = done.stdout.splitlines()
+    found = {oid: what for _, oid, _, what in (line.partition(";")[0].split(None, 3) for line in faults)}
+    wanted = {malformed: "malformed"}
+    if "gixobj_reencode" in NAMES:
+        wanted[commit] = "re-encodes differently"
+    else:
+        assert last.endswith("; encodings weren't compared: " + HOW.format("gixobj_reencode")), last
+    assert found == wanted, found
+    assert last.startswith(f"{folder}: ") and f" {len(wanted)} faulty; " in last, last
+    assert ("compared" in last) == ("gixobj_reencode" not in NAMES), last
+
+
+test_calls()
+test_audit()
+print("ok")
