@@ -45,7 +45,9 @@ fn main() -> Result<(), Box<dyn std::error::Error>> {
         count += 1;
         line.clear();
     }
-    git.wait()?;
+    if !git.wait()?.success() {
+        return Err("git could not list the objects".into());
+    }
     println!("{count} objects, {faults} faults");
     Ok(())
 }
