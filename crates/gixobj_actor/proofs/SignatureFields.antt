@@ -6,6 +6,7 @@ use Rattle.gixobj_fields.proofs.Appends.{appends_prefix_after_byte}
 use Rattle.gixobj_fields.specs.HeaderFormat.{encode_field}
 use Rattle.gixobj_fields.specs.Streams.{AppendsAll, AppendsPrefix, SinkView}
 use Rattle.gixobj_fields.specs.Writing.{IsWritingError, LacksRoom}
+use Rattle.std.specs.declared.io.Error as io
 use Rattle.gixobj_fields.specs.declared.encode.Error.{Error}
 use Rattle.gixobj_fields.specs.declared.encode.Error.TheVariants as error
 use Rattle.gixobj_actor.specs.ActorWriting.{IsActorError, IsActorFieldError, encode_owned_actor}
@@ -35,7 +36,7 @@ field_error_of_actor_error (Err why) a b c U name actor write_bytes same failure
     field_error_of_owned_actor_error a b c U name actor why write_bytes same failure
 
 -- a sink fails only for a legal actor, which is not rejected
-lacks_room_of_legal_actor : (a : SinkView) (Unchanged Written : Type 0) (name : List ℕ) (actor : Signature) (e : Error)
+lacks_room_of_legal_actor : (a : SinkView) (Unchanged : Type 0) (Written : io.Error → Type 0) (name : List ℕ) (actor : Signature) (e : Error)
     → IsActorError (bstring_bytes actor.name) (bstring_bytes actor.email) Unchanged Written e → LacksRoom (IsActorFieldError name actor) a e
 lacks_room_of_legal_actor a U W name actor (error.Writer cause) failure = λ value parts rejected. absurd (rejected.0 failure.0)
 lacks_room_of_legal_actor a U W name actor error.IllegalActor failure = tt
@@ -46,8 +47,8 @@ lacks_room_of_legal_actor a U W name actor (error.InvalidRefName fault) failure 
 lacks_room_of_legal_actor a U W name actor (error.NullbyteInFilename value) failure = tt
 lacks_room_of_legal_actor a U W name actor error.OutOfMemory failure = tt
 
-pub field_room_of_actor_error : {T : Type 0} (result : Result T Error) (a : SinkView) (Unchanged Written : Type 0) (name : List ℕ) (actor : Signature)
-    → IfErr result (IsActorError (bstring_bytes actor.name) (bstring_bytes actor.email) Unchanged Written)
+pub field_room_of_actor_error : {T : Type 0} (result : Result T Error) (a : SinkView) (Unchanged : Type 0) (Written : io.Error → Type 0)
+    (name : List ℕ) (actor : Signature) → IfErr result (IsActorError (bstring_bytes actor.name) (bstring_bytes actor.email) Unchanged Written)
     → IfErr result (LacksRoom (IsActorFieldError name actor) a)
 field_room_of_actor_error (Ok value) a U W name actor failure = tt
 field_room_of_actor_error (Err why) a U W name actor failure = lacks_room_of_legal_actor a U W name actor why failure

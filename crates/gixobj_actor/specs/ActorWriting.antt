@@ -11,6 +11,7 @@ use Rattle.gixobj_actor.specs.declared.date.Time.{Time}
 use Rattle.gixobj_fields.specs.declared.encode.Error.{Error}
 use Rattle.gixobj_fields.specs.declared.encode.Error.TheVariants.{IllegalActor, Writer}
 use Rattle.gixobj_hash.specs.Bytes.{space}
+use Rattle.std.specs.declared.io.Error as io
 
 -- the encoding of a borrowed actor
 abbrev pub encode_borrowed_actor : SignatureRef → List ℕ
@@ -29,11 +30,11 @@ IsLegalActor name email = IsWritable name × IsWritable email
 abbrev pub IsLegal : Signature → Type 0
 IsLegal actor = IsLegalActor (bstring_bytes actor.name) (bstring_bytes actor.email)
 
--- why an actor is not written: it is illegal, and its output is unchanged; or the writer failed, and a proper prefix
--- is written
-abbrev pub IsActorError : List ℕ → List ℕ → Type 0 → Type 0 → Error → Type 0
+-- why an actor is not written: it is illegal, and its output is unchanged; or the writer failed with this error, and a
+-- proper prefix is written
+abbrev pub IsActorError : List ℕ → List ℕ → Type 0 → (io.Error → Type 0) → Error → Type 0
 IsActorError name email unchanged appends_prefix IllegalActor = ¬ (IsLegalActor name email) × unchanged
-IsActorError name email unchanged appends_prefix (Writer error) = IsLegalActor name email × appends_prefix
+IsActorError name email unchanged appends_prefix (Writer cause) = IsLegalActor name email × appends_prefix cause
 IsActorError name email unchanged appends_prefix other = ⊥
 
 -- the actor of a field is illegal; the name of the field and a space are written before it

@@ -24,7 +24,7 @@ HasEmptyEncoding commit = commit.encoding ≡ Some []
 -- the error of encoding the owned copy of a decoded commit. Writer: the sink failed after a proper prefix;
 -- IllegalActor: an actor can't be written; EmptyValue: the message encoding is empty
 abbrev pub IsNormalizedCommitError : CommitLines → SinkView → SinkView → List ℕ → Error → Type 0
-IsNormalizedCommitError commit before after content (error.Writer cause) = AppendsPrefix before after content
+IsNormalizedCommitError commit before after content (error.Writer cause) = AppendsPrefix before after content cause
 IsNormalizedCommitError commit before after content error.IllegalActor = IsUnwritable commit.author
     ⊎ IsUnwritable commit.committer
 IsNormalizedCommitError commit before after content error.EmptyValue = HasEmptyEncoding commit

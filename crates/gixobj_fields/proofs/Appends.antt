@@ -1,11 +1,12 @@
 -- Appends to a sink in several steps are one append, entire or of a proper prefix; used by the proofs of fields,
 -- actors, commits, tags and trees.
-use Rattle.std.proofs.Common.{◌≡◌, ◌==◌, true, false, refl, ◌-◌, ◌<◌, ◌≤◌, ℕ, take, drop, List, [], ◌++◌, Option, Some, None, ◌∷◌, Result, Ok, Err, append_assoc, arith, length, length-append, sym, ap, ◌∙◌}
+use Rattle.std.proofs.Common.{◌≡◌, ◌⊎◌, inl, inr, ◌==◌, true, false, refl, ◌-◌, ◌<◌, ◌≤◌, ℕ, take, drop, List, [], ◌++◌, Option, Some, None, ◌∷◌, Result, Ok, Err, append_assoc, arith, length, length-append, sym, ap, ◌∙◌}
 use Rattle.std.proofs.lemmas.Bool.{eqb-true}
 use Rattle.std.proofs.lemmas.List.{append-nil, length-drop, take-append-drop, take_all}
 use Rattle.std.proofs.KnownBytes.{Appends-kept}
 use Rattle.std.specs.Io.KnownBytes.{Appends, Keeps}
-use Rattle.gixobj_fields.specs.Streams.{AppendsAll, AppendsPrefix, AppendsOrFails, SinkView, writer_view}
+use Rattle.gixobj_fields.specs.Streams.{AppendsAll, AppendsPrefix, AppendsOrFails, FailsToAppend, SinkView, writer_view}
+use Rattle.std.specs.declared.io.Error as io
 
 pub appends_append : (a b c : Option (List ℕ)) (x y : List ℕ) → Appends a b x → Appends b c y → Appends a c (x ++ y)
 appends_append None b c x y p q = tt
@@ -28,7 +29,7 @@ appends_all_append a b c x y first second =
     }
 
 -- a proper prefix of the first part is one of all the bytes
-pub appends_prefix_first : (a b : SinkView) (x y : List ℕ) → AppendsPrefix a b x → AppendsPrefix a b (x ++ y)
+pub appends_prefix_first : {e : io.Error} (a b : SinkView) (x y : List ℕ) → AppendsPrefix a b x e → AppendsPrefix a b (x ++ y) e
 appends_prefix_first a b x y part =
     record {
       prefix = part.prefix;
@@ -37,10 +38,11 @@ appends_prefix_first a b x y part =
       missing = omega (arith, part.missing, length-append part.rest y);
       held = part.held;
       short = omega (arith, part.short, length-append x y);
+      of_kind = part.of_kind;
     }
 
 -- the first part and a proper prefix of the second are a proper prefix of both
-pub appends_prefix_append : (a b c : SinkView) (x y : List ℕ) → AppendsAll a b x → AppendsPrefix b c y → AppendsPrefix a c (x ++ y)
+pub appends_prefix_append : {e : io.Error} (a b c : SinkView) (x y : List ℕ) → AppendsAll a b x → AppendsPrefix b c y e → AppendsPrefix a c (x ++ y) e
 appends_prefix_append a b c x y first part =
     record {
       prefix = x ++ part.prefix;
@@ -49,18 +51,20 @@ appends_prefix_append a b c x y first part =
       missing = part.missing;
       held = appends_append a.held b.held c.held x part.prefix first.held part.held;
       short = omega (arith, first.room, part.short, length-append x y);
+      of_kind = part.of_kind;
     }
 
 -- the first part and a proper prefix of the second are a proper prefix of all three parts
-pub appends_prefix_middle : (a b c : SinkView) (x y z : List ℕ) → AppendsAll a b x → AppendsPrefix b c y → AppendsPrefix a c (x ++ (y ++ z))
+pub appends_prefix_middle : {e : io.Error} (a b c : SinkView) (x y z : List ℕ) → AppendsAll a b x → AppendsPrefix b c y e → AppendsPrefix a c (x ++ (y ++ z)) e
 appends_prefix_middle a b c x y z first part = appends_prefix_append a b c x (y ++ z) first (appends_prefix_first b c y z part)
 
 -- a proper prefix of a part and its last byte is one of all the bytes
-pub appends_prefix_before_byte : (a b : SinkView) (x : List ℕ) (byte : ℕ) (z : List ℕ) → AppendsPrefix a b (x ++ byte ∷ []) → AppendsPrefix a b (x ++ byte ∷ z)
+pub appends_prefix_before_byte : {e : io.Error} (a b : SinkView) (x : List ℕ) (byte : ℕ) (z : List ℕ) → AppendsPrefix a b (x ++ byte ∷ []) e
+    → AppendsPrefix a b (x ++ byte ∷ z) e
 appends_prefix_before_byte a b x byte z part = rw (← append_assoc x (byte ∷ []) z) (appends_prefix_first a b (x ++ byte ∷ []) z part)
 
-pub appends_prefix_after_byte : (a b c : SinkView) (x : List ℕ) (byte : ℕ) (z : List ℕ) → AppendsAll a b (x ++ byte ∷ []) → AppendsPrefix b c z
-    → AppendsPrefix a c (x ++ byte ∷ z)
+pub appends_prefix_after_byte : {e : io.Error} (a b c : SinkView) (x : List ℕ) (byte : ℕ) (z : List ℕ) → AppendsAll a b (x ++ byte ∷ [])
+    → AppendsPrefix b c z e → AppendsPrefix a c (x ++ byte ∷ z) e
 appends_prefix_after_byte a b c x byte z first part = rw (← append_assoc x (byte ∷ []) z) (appends_prefix_append a b c (x ++ byte ∷ []) z first part)
 
 -- a list splits after a prefix and `n` more elements
@@ -72,22 +76,28 @@ append_take_drop head all rest n joined short =
     rw following (joined ∙ ap (λ (it : List ℕ). head ++ it) (sym (take-append-drop n rest)) ∙ sym (append_assoc head (take n rest) (drop n rest)))
 
 -- an append after the first part is an append of both parts
-pub appends_or_fails_append : {T E : Type 0} (r : Result T E) (a b c : SinkView) (x y : List ℕ) → AppendsAll a b x → AppendsOrFails r b c y
+pub appends_or_fails_append : {T : Type 0} (r : Result T io.Error) (a b c : SinkView) (x y : List ℕ) → AppendsAll a b x → AppendsOrFails r b c y
     → AppendsOrFails r a c (x ++ y)
 appends_or_fails_append (Ok value) a b c x y first more = appends_all_append a b c x y first more
 appends_or_fails_append (Err why) a b c x y first more = appends_prefix_append a b c x y first more
 
-pub appends_or_fails_after_byte : {T E : Type 0} (r : Result T E) (a b c : SinkView) (x : List ℕ) (byte : ℕ) (z : List ℕ)
+pub appends_or_fails_after_byte : {T : Type 0} (r : Result T io.Error) (a b c : SinkView) (x : List ℕ) (byte : ℕ) (z : List ℕ)
     → AppendsAll a b (x ++ byte ∷ [])
     → AppendsOrFails r b c z → AppendsOrFails r a c (x ++ byte ∷ z)
 appends_or_fails_after_byte r a b c x byte z first more =
     rw (← append_assoc x (byte ∷ []) z) (appends_or_fails_append r a b c (x ++ byte ∷ []) z first more)
 
+-- an append whose result is dropped
+pub appends_all_or_fails : {T : Type 0} (r : Result T io.Error) (a b : SinkView) (x : List ℕ) → AppendsOrFails r a b x
+    → AppendsAll a b x ⊎ FailsToAppend a b x
+appends_all_or_fails (Ok value) a b x all = inl all
+appends_all_or_fails (Err cause) a b x part = inr (cause, part)
+
 -- an append to a sink with more room is an append to the sink before it had that room
 pub appends_with_more_room : (a b c : SinkView) (x : List ℕ) → a.held ≡ b.held → a.room ≤ b.room → AppendsAll b c x → AppendsAll a c x
 appends_with_more_room a b c x same less write_bytes = record { held = rw same write_bytes.held; room = omega (arith, less, write_bytes.room) }
 
-pub prefix_with_more_room : (a b c : SinkView) (x : List ℕ) → a.held ≡ b.held → a.room ≤ b.room → AppendsPrefix b c x → AppendsPrefix a c x
+pub prefix_with_more_room : {e : io.Error} (a b c : SinkView) (x : List ℕ) → a.held ≡ b.held → a.room ≤ b.room → AppendsPrefix b c x e → AppendsPrefix a c x e
 prefix_with_more_room a b c x same less part =
     record {
       prefix = part.prefix;
@@ -96,6 +106,7 @@ prefix_with_more_room a b c x same less part =
       missing = part.missing;
       held = rw same part.held;
       short = omega (arith, less, part.short);
+      of_kind = part.of_kind;
     }
 
 -- ---- a writer that accepts the remaining bytes
@@ -115,8 +126,8 @@ keeps_nil (Some a) None count rest none held = absurd held
 keeps_nil (Some a) (Some b) count rest none held = (rw none at held) ∙ append-nil a
 
 -- a writer that accepts no more of the bytes has a proper prefix of them
-pub writer_prefix : (first here after : Option (List ℕ)) (bytes head rest : List ℕ) → bytes ≡ head ++ rest → 0 < length rest → Appends first here head
-    → Keeps here after → AppendsPrefix (writer_view first) (writer_view after) bytes
+pub writer_prefix : {e : io.Error} (first here after : Option (List ℕ)) (bytes head rest : List ℕ) → bytes ≡ head ++ rest → 0 < length rest
+    → Appends first here head → Keeps here after → AppendsPrefix (writer_view first) (writer_view after) bytes e
 writer_prefix first here after bytes head rest joined missing held kept =
     record {
       prefix = head;
@@ -125,6 +136,7 @@ writer_prefix first here after bytes head rest joined missing held kept =
       missing = missing;
       held = Appends-kept first here after head held kept;
       short = omega (arith, missing, ap length joined, length-append head rest);
+      of_kind = tt;
     }
 
 -- a writer has all the bytes if none remain

@@ -2,7 +2,11 @@
 -- trees.
 use Rattle.std.proofs.Common.{◌≡◌, ◌≤◌, ◌<◌, ◌+◌, ◌⊎◌, ⊎_elim, ℕ, List, [], ◌++◌, Result, Ok, Err, Some, ap, arith, inl, inr, length, length-append, subst}
 use Rattle.std.specs.Prelude.{IfErr}
-use Rattle.gixobj_fields.specs.Streams.{AppendsAll, AppendsPrefix, SinkView}
+use Rattle.std.specs.declared.alloc.Global.{Global}
+use Rattle.std.specs.declared.vec.Vec.{Vec}
+use Rattle.std.specs.declared.io.ErrorKind.TheVariants.{OutOfMemory}
+use Rattle.gixobj_fields.specs.Streams.{AppendsAll, AppendsPrefix, SinkView, list_view}
+use Rattle.std.specs.declared.io.Error as io
 use Rattle.gixobj_fields.specs.declared.encode.Error.{Error}
 use Rattle.gixobj_fields.specs.declared.encode.Error.TheVariants as error
 use Rattle.gixobj_fields.specs.Writing.{FailsAsSink, IsEncodingError, IsWritingError, LacksRoom, RejectedValue, RejectsNothing, StopsAt}
@@ -15,9 +19,10 @@ stops_at_append R Q a b c prefix p step value s = (prefix ++ s.0, step value s.0
 
 -- the error of a part after a written prefix is an error of the entire encoding
 pub writing_error_append : (R Q : RejectedValue → List ℕ → Type 0) (a b c : SinkView) (prefix part entire : List ℕ) → AppendsAll a b prefix
-    → ((value : RejectedValue) (parts : List ℕ) → R value parts → Q value (prefix ++ parts)) → (AppendsPrefix b c part → AppendsPrefix a c entire)
+    → ((value : RejectedValue) (parts : List ℕ) → R value parts → Q value (prefix ++ parts))
+    → ((cause : io.Error) → AppendsPrefix b c part cause → AppendsPrefix a c entire cause)
     → (e : Error) → IsWritingError R b c part e → IsWritingError Q a c entire e
-writing_error_append R Q a b c prefix part entire p step fails (error.Writer cause) s = fails s
+writing_error_append R Q a b c prefix part entire p step fails (error.Writer cause) s = fails cause s
 writing_error_append R Q a b c prefix part entire p step fails (error.NewlineInHeaderValue value) s = stops_at_append R Q a b c prefix p step _ s
 writing_error_append R Q a b c prefix part entire p step fails error.EmptyValue s = stops_at_append R Q a b c prefix p step _ s
 writing_error_append R Q a b c prefix part entire p step fails error.StartsWithDash s = stops_at_append R Q a b c prefix p step _ s
@@ -32,12 +37,14 @@ pub writing_error_within : (R Q : RejectedValue → List ℕ → Type 0) (a b c 
     → ((value : RejectedValue) (parts : List ℕ) → R value parts → Q value (prefix ++ parts)) → (e : Error) → IsWritingError R b c part e
     → IsWritingError Q a c (prefix ++ (part ++ rest)) e
 writing_error_within R Q a b c prefix part rest p step e s =
-    writing_error_append R Q a b c prefix part (prefix ++ (part ++ rest)) p step (appends_prefix_middle a b c prefix part rest p) e s
+    writing_error_append R Q a b c prefix part (prefix ++ (part ++ rest)) p step
+    (λ cause. appends_prefix_middle a b c prefix part rest p) e s
 
 -- the error of a part is an error of a longer encoding that has the part's proper prefixes
-pub writing_error_longer : (R : RejectedValue → List ℕ → Type 0) (a b : SinkView) (part entire : List ℕ) → (AppendsPrefix a b part → AppendsPrefix a b entire)
+pub writing_error_longer : (R : RejectedValue → List ℕ → Type 0) (a b : SinkView) (part entire : List ℕ)
+    → ((cause : io.Error) → AppendsPrefix a b part cause → AppendsPrefix a b entire cause)
     → (e : Error) → IsWritingError R a b part e → IsWritingError R a b entire e
-writing_error_longer R a b part entire fails (error.Writer cause) s = fails s
+writing_error_longer R a b part entire fails (error.Writer cause) s = fails cause s
 writing_error_longer R a b part entire fails (error.NewlineInHeaderValue value) s = s
 writing_error_longer R a b part entire fails error.EmptyValue s = s
 writing_error_longer R a b part entire fails error.StartsWithDash s = s
@@ -75,8 +82,8 @@ lacks_room_with_more_room R a b less error.IllegalActor short = tt
 lacks_room_with_more_room R a b less error.OutOfMemory short = tt
 
 -- a sink that failed in a piece after a written prefix lacks room, if nothing is rejected before the end of the piece
-pub lacks_room_in_piece : (Q : RejectedValue → List ℕ → Type 0) (a b c : SinkView) (prefix piece : List ℕ) → AppendsAll a b prefix
-    → AppendsPrefix b c piece
+pub lacks_room_in_piece : {cause : io.Error} (Q : RejectedValue → List ℕ → Type 0) (a b c : SinkView) (prefix piece : List ℕ) → AppendsAll a b prefix
+    → AppendsPrefix b c piece cause
     → ((value : RejectedValue) (parts : List ℕ) → Q value parts → length prefix + length piece ≤ length parts)
     → (value : RejectedValue) (parts : List ℕ) → Q value parts → a.room < length parts
 lacks_room_in_piece Q a b c prefix piece first part later =
@@ -138,10 +145,9 @@ fails_as_sink_of_error R a b bytes error.OutOfMemory nothing (value, inl s) = no
 fails_as_sink_of_error R a b bytes error.OutOfMemory nothing (value, inr s) = no_stop_of_rejects_nothing R a b _ nothing s
 
 -- an error of a writer to a list that is empty and has allocated nothing
-pub encoding_error_of_list : (Rejects : RejectedValue → List ℕ → Type 0) (bytes items : List ℕ) (room : ℕ) (after : SinkView) (e : Error)
-    → items ≡ [] → room ≡ 0 → IsWritingError Rejects (record { held = Some items; room = room }) after bytes e → IsEncodingError Rejects bytes e
-encoding_error_of_list Rejects bytes items room after e none full is = (
-  after,
-  subst (λ (n : ℕ). IsWritingError Rejects (record { held = Some []; room = n }) after bytes e) full
-      (subst (λ (xs : List ℕ). IsWritingError Rejects (record { held = Some xs; room = room }) after bytes e) none is),
-)
+pub encoding_error_of_list : (Rejects : RejectedValue → List ℕ → Type 0) (bytes items : List ℕ) (room : ℕ) (after : Vec ℕ Global) (e : Error)
+    → items ≡ [] → room ≡ 0 → IsWritingError Rejects (record { held = Some items; room = room; failure = Some OutOfMemory }) (list_view after) bytes e
+    → IsEncodingError Rejects bytes e
+encoding_error_of_list Rejects bytes items room after e none full is =
+    let At : List ℕ → ℕ → Type 0 = λ xs n. IsWritingError Rejects (record { held = Some xs; room = n; failure = Some OutOfMemory }) (list_view after) bytes e in
+    (after, subst (λ (n : ℕ). At [] n) full (subst (λ (xs : List ℕ). At xs room) none is))

@@ -14,6 +14,7 @@ use Rattle.gixobj_hash.specs.declared.hash.object_id.ObjectId.{ObjectId}
 use Rattle.gixobj_fields.specs.HeaderFormat.{encode_field, encode_continuation, encode_line}
 use Rattle.gixobj_hash.specs.ByteStrings.{IsByteFree, SplitsAt}
 use Rattle.gixobj_fields.specs.Streams.{AppendsAll, AppendsPrefix, SinkView}
+use Rattle.std.specs.declared.io.Error as io
 use Rattle.gixobj_fields.specs.Writing.{RejectsNothing}
 use Rattle.gixobj_fields.proofs.Appends.{appends_prefix_middle}
 use Rattle.gixobj_fields.specs.FieldWriting.{IsLastLine, IsFieldError, folded, value_lines}
@@ -121,9 +122,9 @@ folded_prefix_append value prefix rest line after so_far one =
     ∙ sym (append_assoc prefix (line ++ 10 ∷ 32 ∷ []) (folded after))
 
 -- a proper prefix of the next line, after the written lines, is a proper prefix of the value's encoding
-pub appends_prefix_of_folded : (a b c : SinkView) (value prefix rest line after : List ℕ) → AppendsAll a b prefix → folded value ≡ prefix ++ folded rest
-    → folded rest ≡ line ++ 10 ∷ 32 ∷ folded after
-    → AppendsPrefix b c (line ++ 10 ∷ 32 ∷ []) → AppendsPrefix a c (folded value)
+pub appends_prefix_of_folded : {cause : io.Error} (a b c : SinkView) (value prefix rest line after : List ℕ) → AppendsAll a b prefix
+    → folded value ≡ prefix ++ folded rest → folded rest ≡ line ++ 10 ∷ 32 ∷ folded after
+    → AppendsPrefix b c (line ++ 10 ∷ 32 ∷ []) cause → AppendsPrefix a c (folded value) cause
 appends_prefix_of_folded a b c value prefix rest line after write_bytes so_far one part =
     rw (folded_prefix_append value prefix rest line after so_far one, append_assoc prefix (line ++ 10 ∷ 32 ∷ []) (folded after))
     (appends_prefix_middle a b c prefix (line ++ 10 ∷ 32 ∷ []) (folded after) write_bytes part)

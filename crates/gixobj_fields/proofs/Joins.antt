@@ -5,6 +5,7 @@ use Rattle.std.proofs.lemmas.List.{append-nil, take_all, take_more, take-append-
 use Rattle.std.proofs.lemmas.List.Concat.{flat_map-append}
 use Rattle.gixobj_fields.proofs.Appends.{appends_prefix_middle}
 use Rattle.gixobj_fields.specs.Streams.{AppendsAll, AppendsPrefix, SinkView}
+use Rattle.std.specs.declared.io.Error as io
 
 pub flat_map_take_succ : {X : Type 0} (bytes : X → List ℕ) (items : List X) (i : ℕ) (e : X) → i < length items → e ≡ get_or items i e
     → flat_map bytes (take (i + 1) items) ≡ flat_map bytes (take i items) ++ bytes e
@@ -23,8 +24,9 @@ flat_map_take_item_drop bytes items i e h is = ap (flat_map bytes) (take_item_dr
     ∙ flat_map-append bytes (take i items) (e ∷ drop (i + 1) items)
 
 -- a proper prefix of an item, after the items before it, is a proper prefix of all items
-pub appends_prefix_of_item : {X : Type 0} (bytes : X → List ℕ) (a b c : SinkView) (items : List X) (i : ℕ) (e : X) → i < length items → e ≡ get_or items i e
-    → AppendsAll a b (flat_map bytes (take i items)) → AppendsPrefix b c (bytes e) → AppendsPrefix a c (flat_map bytes items)
+pub appends_prefix_of_item : {X : Type 0} {cause : io.Error} (bytes : X → List ℕ) (a b c : SinkView) (items : List X) (i : ℕ) (e : X)
+    → i < length items → e ≡ get_or items i e → AppendsAll a b (flat_map bytes (take i items)) → AppendsPrefix b c (bytes e) cause
+    → AppendsPrefix a c (flat_map bytes items) cause
 appends_prefix_of_item bytes a b c items i e h is write_bytes part =
     rw (flat_map_take_item_drop bytes items i e h is) (appends_prefix_middle a b c (flat_map bytes (take i items)) (bytes e)
     (flat_map bytes (drop (i + 1) items)) write_bytes part)

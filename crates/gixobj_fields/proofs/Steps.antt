@@ -2,6 +2,7 @@
 use Rattle.std.proofs.Common.{◌≡◌, ◌+◌, ◌<◌, ℕ, List, ◌++◌, arith, length, ap, length-append}
 use Rattle.gixobj_fields.proofs.Appends.{appends_prefix_first, appends_prefix_append, appends_all_append}
 use Rattle.gixobj_fields.specs.Streams.{AppendsAll, AppendsPrefix, SinkView}
+use Rattle.std.specs.declared.io.Error as io
 
 -- four parts, concatenated
 abbrev pub in_parts : List ℕ → List ℕ → List ℕ → List ℕ → List ℕ
@@ -13,22 +14,23 @@ pub record IsInParts (bytes first second third fourth : List ℕ) : Type 0 where
 
 -- ---- four parts p, q, r, s, written in order
 
-appends_prefix_of_eq : (a b : SinkView) (x y : List ℕ) → y ≡ x → AppendsPrefix a b x → AppendsPrefix a b y
+appends_prefix_of_eq : {cause : io.Error} (a b : SinkView) (x y : List ℕ) → y ≡ x → AppendsPrefix a b x cause → AppendsPrefix a b y cause
 appends_prefix_of_eq a b x y same part = rw same part
 
-pub appends_first_of_four : (a b : SinkView) (bytes p q r s : List ℕ) → IsInParts bytes p q r s → AppendsPrefix a b p → AppendsPrefix a b bytes
+pub appends_first_of_four : {cause : io.Error} (a b : SinkView) (bytes p q r s : List ℕ) → IsInParts bytes p q r s → AppendsPrefix a b p cause
+    → AppendsPrefix a b bytes cause
 appends_first_of_four a b bytes p q r s entire part =
     appends_prefix_of_eq a b (in_parts p q r s) bytes entire.joined (appends_prefix_first a b ((p ++ q) ++ r) s
     (appends_prefix_first a b (p ++ q) r (appends_prefix_first a b p q part)))
 
-pub appends_second_of_four : (a b c : SinkView) (bytes p q r s : List ℕ) → IsInParts bytes p q r s → AppendsAll a b p → AppendsPrefix b c q
-    → AppendsPrefix a c bytes
+pub appends_second_of_four : {cause : io.Error} (a b c : SinkView) (bytes p q r s : List ℕ) → IsInParts bytes p q r s → AppendsAll a b p
+    → AppendsPrefix b c q cause → AppendsPrefix a c bytes cause
 appends_second_of_four a b c bytes p q r s entire one part =
     appends_prefix_of_eq a c (in_parts p q r s) bytes entire.joined (appends_prefix_first a c ((p ++ q) ++ r) s
     (appends_prefix_first a c (p ++ q) r (appends_prefix_append a b c p q one part)))
 
-pub appends_third_of_four : (a b c d : SinkView) (bytes p q r s : List ℕ) → IsInParts bytes p q r s → AppendsAll a b p → AppendsAll b c q → AppendsPrefix c d r
-    → AppendsPrefix a d bytes
+pub appends_third_of_four : {cause : io.Error} (a b c d : SinkView) (bytes p q r s : List ℕ) → IsInParts bytes p q r s → AppendsAll a b p
+    → AppendsAll b c q → AppendsPrefix c d r cause → AppendsPrefix a d bytes cause
 appends_third_of_four a b c d bytes p q r s entire one two part =
     appends_prefix_of_eq a d (in_parts p q r s) bytes entire.joined
     (appends_prefix_first a d ((p ++ q) ++ r) s (appends_prefix_append a c d (p ++ q) r (appends_all_append a b c p q one two) part))
@@ -36,8 +38,8 @@ appends_third_of_four a b c d bytes p q r s entire one two part =
 pub appends_all_three : (a b c d : SinkView) (p q r : List ℕ) → AppendsAll a b p → AppendsAll b c q → AppendsAll c d r → AppendsAll a d ((p ++ q) ++ r)
 appends_all_three a b c d p q r one two three = appends_all_append a c d (p ++ q) r (appends_all_append a b c p q one two) three
 
-pub appends_fourth_of_four : (a b c d e : SinkView) (bytes p q r s : List ℕ) → IsInParts bytes p q r s → AppendsAll a b p → AppendsAll b c q → AppendsAll c d r
-    → AppendsPrefix d e s → AppendsPrefix a e bytes
+pub appends_fourth_of_four : {cause : io.Error} (a b c d e : SinkView) (bytes p q r s : List ℕ) → IsInParts bytes p q r s → AppendsAll a b p
+    → AppendsAll b c q → AppendsAll c d r → AppendsPrefix d e s cause → AppendsPrefix a e bytes cause
 appends_fourth_of_four a b c d e bytes p q r s entire one two three part =
     appends_prefix_of_eq a e (in_parts p q r s) bytes entire.joined (appends_prefix_append a d e ((p ++ q) ++ r) s
     (appends_all_three a b c d p q r one two three) part)

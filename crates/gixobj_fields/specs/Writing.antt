@@ -1,8 +1,10 @@
 -- Sizes, rejected values and errors of the writers of objects.
 use Rattle.std.specs.Option.{SomeIff}
 use Rattle.std.specs.Prelude.{◌⊎◌, ◌<◌, ◌+◌, ◌^◌, ℕ, List, Option, length, ⊤}
+use Rattle.std.specs.declared.alloc.Global.{Global}
+use Rattle.std.specs.declared.vec.Vec.{Vec}
 use Rattle.bstr.specs.Owned.{bstring_bytes}
-use Rattle.gixobj_fields.specs.Streams.{AppendsAll, AppendsPrefix, SinkView, empty_sink}
+use Rattle.gixobj_fields.specs.Streams.{AppendsAll, AppendsPrefix, SinkView, empty_sink, list_view}
 use Rattle.gixobj_fields.specs.declared.encode.Error.{Error}
 use Rattle.gixobj_fields.specs.declared.encode.Error.TheVariants as error
 use Rattle.gixobj_fields.specs.declared.encode.RefNameFault.{RefNameFault}
@@ -32,10 +34,10 @@ RejectsNothing Rejects = (value : RejectedValue) (parts : List ℕ) → ¬ Rejec
 abbrev pub StopsAt : (RejectedValue → List ℕ → Type 0) → SinkView → SinkView → RejectedValue → Type 0
 StopsAt Rejects before after value = (parts : List ℕ) × Rejects value parts × AppendsAll before after parts
 
--- the error of a writer of these bytes with these rejected values; Writer: the sink failed; OutOfMemory: the copy of
--- a rejected value failed to allocate; any other: this value was rejected
+-- the error of a writer of these bytes with these rejected values; Writer: the sink failed with this error;
+-- OutOfMemory: the copy of a rejected value failed to allocate; any other: this value was rejected
 abbrev pub IsWritingError : (RejectedValue → List ℕ → Type 0) → SinkView → SinkView → List ℕ → Error → Type 0
-IsWritingError Rejects before after bytes (error.Writer cause) = AppendsPrefix before after bytes
+IsWritingError Rejects before after bytes (error.Writer cause) = AppendsPrefix before after bytes cause
 IsWritingError Rejects before after bytes (error.NewlineInHeaderValue value) =
     StopsAt Rejects before after (header_with_newline (bstring_bytes value))
 IsWritingError Rejects before after bytes error.EmptyValue = StopsAt Rejects before after empty_header
@@ -54,11 +56,12 @@ LacksRoom Rejects before (error.Writer cause) =
     (value : RejectedValue) (parts : List ℕ) → Rejects value parts → before.room < length parts
 LacksRoom Rejects before other = ⊤
 
--- the error of a writer of these bytes to an empty list, which has no room yet
+-- the error of a writer of these bytes to an empty list, which has no room yet; Writer: of kind OutOfMemory
 abbrev pub IsEncodingError : (RejectedValue → List ℕ → Type 0) → List ℕ → Error → Type 0
-IsEncodingError Rejects bytes error = (after : SinkView) × IsWritingError Rejects empty_sink after bytes error
+IsEncodingError Rejects bytes error =
+    (after : Vec ℕ Global) × IsWritingError Rejects empty_sink (list_view after) bytes error
 
 -- the error is that of the sink, to which a proper prefix of the bytes was appended
 abbrev pub FailsAsSink : SinkView → SinkView → List ℕ → Error → Type 0
-FailsAsSink before after bytes (error.Writer cause) = AppendsPrefix before after bytes
+FailsAsSink before after bytes (error.Writer cause) = AppendsPrefix before after bytes cause
 FailsAsSink before after bytes other = ⊥

@@ -78,7 +78,8 @@ impl<R: Read> Source for FromRead<'_, R> {
 pub trait Sink {
     ghost use Rattle.gixobj_fields.specs.Streams.{SinkView};
 
-    /// The written bytes, if they are known, and how many more bytes are certain to be accepted.
+    /// The written bytes, if they are known, how many more bytes are certain to be accepted, and the kind of
+    /// the errors, if it is known.
     ghost view: { Self → SinkView };
 
     /// The loan of the output, if the sink borrows one. Every call leaves it unchanged.
@@ -88,14 +89,15 @@ pub trait Sink {
     ///
     /// # Errors
     ///
-    /// The error of the writer, only if the sink has no room for the bytes. A proper prefix of them has
-    /// then been written.
+    /// The error of the writer, of the known kind, only if the sink has no room for the bytes. A proper prefix
+    /// of them has then been written.
     fn write_bytes(&mut self, bytes: &[u8]) -> io::Result<()>
         ensures appended { AppendsOrFails result (view self.old) (view self.new) bytes.now }
         ensures same_loan { loan self.new ≡ loan self.old };
 }
 
-/// An append to a `Vec` fails only if it needs capacity that can't be allocated. It then appends nothing.
+/// An append to a `Vec` fails only if it needs capacity that can't be allocated. It then appends nothing,
+/// and the error is of kind `OutOfMemory`.
 impl Sink for Vec<u8> {
     ghost view = { list_view };
 

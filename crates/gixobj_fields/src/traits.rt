@@ -43,8 +43,9 @@ pub trait WriteTo {
     ///
     /// # Errors
     ///
-    /// - [`encode::Error::Writer`] if the sink failed. A proper prefix of the encoding has then been
-    ///   written. If the object has a rejected value, the sink had less room than the parts before it.
+    /// - [`encode::Error::Writer`] with the error of the sink, if it failed. A proper prefix of the encoding
+    ///   has then been written. If the object has a rejected value, the sink had less room than the parts
+    ///   before it.
     /// - [`encode::Error::OutOfMemory`] if the allocation of a copy of a rejected value failed.
     /// - Any other [`encode::Error`] if the object has the value that the error names.
     ///
@@ -107,9 +108,9 @@ pub trait WriteTo {
     ///
     /// # Errors
     ///
-    /// - [`encode::Error::Writer`] if the list has too little capacity and an allocation failed. A proper
-    ///   prefix of the encoding has then been appended. If the object has a rejected value, the list had
-    ///   less capacity than the parts before it.
+    /// - [`encode::Error::Writer`] of kind `OutOfMemory`, if the list has too little capacity and an
+    ///   allocation failed. A proper prefix of the encoding has then been appended. If the object has a
+    ///   rejected value, the list had less capacity than the parts before it.
     /// - [`encode::Error::OutOfMemory`] if the allocation of a copy of a rejected value failed.
     /// - Any other [`encode::Error`] if the object has the value that the error names.
     ///
@@ -142,7 +143,7 @@ pub trait WriteTo {
     ///
     /// # Errors
     ///
-    /// - [`encode::Error::Writer`] if the allocation of the encoding failed.
+    /// - [`encode::Error::Writer`] of kind `OutOfMemory`, if the allocation of the encoding failed.
     /// - [`encode::Error::OutOfMemory`] if the allocation of a copy of a rejected value failed.
     /// - Any other [`encode::Error`] if the object has the value that the error names.
     final fn compute_id(&self, alloc: Global, hash: hash::Kind) -> Result<ObjectId, encode::Error>

@@ -1,2 +1,3 @@
+mod EncodingErrors
 mod Nothing
 mod OfKinds

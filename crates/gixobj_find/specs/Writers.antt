@@ -1,6 +1,8 @@
 -- Writes of objects to a store (git-hash-object, `-w`).
 use Rattle.std.specs.Prelude.{◌≡◌, ◌⊎◌, ℕ, Err, List, [], Option, Result, Some, length}
-use Rattle.gixobj_fields.specs.Streams.{SinkView}
+use Rattle.std.specs.declared.alloc.Global.{Global}
+use Rattle.std.specs.declared.vec.Vec.{Vec}
+use Rattle.gixobj_fields.specs.Streams.{list_view}
 use Rattle.gixobj_fields.specs.Writing.{RejectedValue, RejectsNothing, IsWritingError}
 use Rattle.gixobj_fields.specs.declared.encode.Error as encode
 use Rattle.gixobj_hash.specs.declared.hash.object_id.ObjectId.{ObjectId}
@@ -12,10 +14,11 @@ use Rattle.gixobj_keep.specs.declared.write.Error.TheVariants.{Encode}
 abbrev pub AnswersStreams : Type 1
 AnswersStreams = Kind → ℕ → Option (List ℕ) → Result ObjectId Error → Type 0
 
--- the result is the error of encoding the object to an empty writer
+-- the result is the error of encoding the object to an empty list
 abbrev pub CannotEncode : (RejectedValue → List ℕ → Type 0) → List ℕ → Result ObjectId Error → Type 0
 CannotEncode Rejects content result = (cause : encode.Error) × (result ≡ Err (Encode cause))
-    × ((before after : SinkView) × (before.held ≡ Some []) × IsWritingError Rejects before after content cause)
+    × ((before after : Vec ℕ Global) × (before.items ≡ [])
+    × IsWritingError Rejects (list_view before) (list_view after) content cause)
 
 -- the result of a write: that for the stream of the object's encoding if no value is rejected; or the error of encoding
 -- it

@@ -11,7 +11,7 @@ use Rattle.gixobj_hash.specs.declared.hash.kind.Kind as hash
 use Rattle.gixobj_hash.specs.declared.kind.Kind.{Kind}
 use Rattle.gixobj_hash.specs.declared.kind.Kind.TheVariants.{Tree}
 use Rattle.gixobj_tree.specs.TreeDecoding.{BeginsWithEntry, IsMalformedTree, DecodesToTree}
-use Rattle.gixobj_fields.specs.Streams.{AppendsAll, AppendsPrefix, SinkView}
+use Rattle.gixobj_fields.specs.Streams.{AppendsAll, FailsToAppend, SinkView}
 use Rattle.gixobj_show.specs.Engine.{ReadsAll, IsPrinted, HasWrittenNothing}
 use Rattle.gixobj_show.specs.Failure.{BeginsWithNoLooseHeader, exit_status_of, line_of}
 use Rattle.gixobj_show.specs.Arguments.{IsCommand, IsCommandOfHash}
@@ -88,7 +88,7 @@ abbrev pub IsListError : List (List ℕ) → Option (List ℕ) → Option (List 
     → Type 0
 IsListError words rest rest' may_fail out out' InputFailed = IsListCommand words × may_fail
 IsListError words rest rest' may_fail out out' OutputFailed = (bytes : List ℕ) × IsListOfInput words rest rest' bytes
-    × AppendsPrefix out out' bytes
+    × FailsToAppend out out' bytes
 IsListError words rest rest' may_fail out out' OutOfMemory = IsListCommand words
 IsListError words rest rest' may_fail out out' BadHeader = IsListCommand words × (input : List ℕ)
     × ReadsAll rest rest' input × BeginsWithNoLooseHeader input

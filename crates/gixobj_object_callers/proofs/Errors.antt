@@ -1,11 +1,13 @@
 -- Errors of callers, by cases of the errors of their calls.
 use Rattle.std.proofs.Common.{◌≡◌, ℕ, List, Result, Ok, Err, Some, refl, subst}
 use Rattle.std.specs.Prelude.{IfErr, IfOk}
+use Rattle.std.specs.declared.alloc.Global.{Global}
+use Rattle.std.specs.declared.vec.Vec.{Vec}
 use Rattle.gix_object.specs.Commit.{CommitLines, DecodesToCommit, IsMalformedCommit, IsCommitDecodeError}
 use Rattle.gix_object.specs.Entries.{EntryView}
 use Rattle.gix_object.specs.Hash.{DecodesToId}
 use Rattle.gix_object.specs.Rewriting.{IsNormalizedCommitError}
-use Rattle.gix_object.specs.Streams.{SinkView}
+use Rattle.gix_object.specs.Streams.{SinkView, list_view}
 use Rattle.gix_object.specs.TokenSearch.{EndsSearch, IsMessageToken, optional_error}
 use Rattle.gix_object.specs.TreeDecoding.{DecodesToTree, IsTreeDecodeError}
 use Rattle.gix_object.specs.Writing.{FailsAsSink}
@@ -31,10 +33,10 @@ pub fails_for_part_of_read : (kind : Kind) (bytes : List ℕ) (commit other : Co
 fails_for_part_of_read kind bytes commit other Malformed rejected is = absurd (rejected commit is)
 fails_for_part_of_read kind bytes commit other OutOfMemory rejected is = tt
 
--- the failure of a sink
-pub fails_for_room_of_write : (before after : SinkView) (bytes : List ℕ) (error : encode.Error) → FailsAsSink before after bytes error
-    → FailsForRoom (Write error)
-fails_for_room_of_write before after bytes (written.Writer cause) fails = tt
+-- the failure of a list
+pub fails_for_room_of_write : (before : SinkView) (after : Vec ℕ Global) (bytes : List ℕ) (error : encode.Error)
+    → FailsAsSink before (list_view after) bytes error → FailsForRoom (Write error)
+fails_for_room_of_write before after bytes (written.Writer cause) fails = fails.of_kind
 fails_for_room_of_write before after bytes (written.NewlineInHeaderValue value) fails = fails
 fails_for_room_of_write before after bytes written.EmptyValue fails = fails
 fails_for_room_of_write before after bytes written.StartsWithDash fails = fails
@@ -43,9 +45,9 @@ fails_for_room_of_write before after bytes (written.NullbyteInFilename name) fai
 fails_for_room_of_write before after bytes written.IllegalActor fails = fails
 fails_for_room_of_write before after bytes written.OutOfMemory fails = fails
 
-pub fails_for_part_of_write : (commit : CommitLines) (before after : SinkView) (bytes : List ℕ) (error : encode.Error)
-    → IsNormalizedCommitError commit before after bytes error → FailsForPart commit (Write error)
-fails_for_part_of_write commit before after bytes (written.Writer cause) fails = tt
+pub fails_for_part_of_write : (commit : CommitLines) (before : SinkView) (after : Vec ℕ Global) (bytes : List ℕ) (error : encode.Error)
+    → IsNormalizedCommitError commit before (list_view after) bytes error → FailsForPart commit (Write error)
+fails_for_part_of_write commit before after bytes (written.Writer cause) fails = fails.of_kind
 fails_for_part_of_write commit before after bytes (written.NewlineInHeaderValue value) fails = fails
 fails_for_part_of_write commit before after bytes written.EmptyValue fails = fails
 fails_for_part_of_write commit before after bytes written.StartsWithDash fails = fails

@@ -105,8 +105,8 @@ pub fn tree_copy_of(alloc: Global, bytes: &[u8], kind: Kind) -> Result<Vec<u8>, 
 ///
 /// - [`CopyError::Read`] if the bytes are malformed, or allocation fails;
 /// - [`CopyError::Write`] with `IllegalActor` if an actor has a byte that no owned one may have;
-/// - [`CopyError::Write`] with `EmptyValue` if the encoding header is empty, or with `Writer` if allocation
-///   fails.
+/// - [`CopyError::Write`] with `EmptyValue` if the encoding header is empty, or with `Writer` of kind
+///   `OutOfMemory` if allocation fails.
 pub fn owned_copy_of(alloc: Global, bytes: &[u8], kind: Kind) -> Result<Vec<u8>, CopyError>
     ensures parts { IfOk result (λ copy. (commit own : CommitLines)
         × DecodesToCommit kind bytes.now commit × AreNormalizedPartsOfCommit commit own

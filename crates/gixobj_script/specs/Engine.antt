@@ -6,7 +6,7 @@ use Rattle.gixobj_script.specs.Arguments.{IsEditCommand}
 use Rattle.gixobj_script.specs.declared.fault.Fault.{Fault}
 use Rattle.gixobj_script.specs.declared.fault.Fault.TheVariants as fault
 use Rattle.gixobj_script.specs.declared.script.ScriptError.TheVariants as script
-use Rattle.gixobj_fields.specs.Streams.{AppendsAll, AppendsPrefix, SinkView}
+use Rattle.gixobj_fields.specs.Streams.{AppendsAll, FailsToAppend, SinkView}
 use Rattle.gixobj_hash.specs.declared.hash.kind.Kind as hash
 use Rattle.gixobj_show.specs.Engine.{ReadsAll, IsPrinted, HasWrittenNothing}
 use Rattle.gixobj_show.specs.Arguments.{IsCommandOfHash}
@@ -31,7 +31,7 @@ IsEditingError words rest rest' may_fail out out' (fault.BadLine number) =
     × IsScriptRunError hash bytes (script.BadLine number)
 IsEditingError words rest rest' may_fail out out' (fault.Refused failure.InputFailed) = IsEditCommand words × may_fail
 IsEditingError words rest rest' may_fail out out' (fault.Refused failure.OutputFailed) =
-    (bytes : List ℕ) × IsReportOfInput words rest rest' bytes × AppendsPrefix out out' bytes
+    (bytes : List ℕ) × IsReportOfInput words rest rest' bytes × FailsToAppend out out' bytes
 IsEditingError words rest rest' may_fail out out' (fault.Refused failure.OutOfMemory) = IsEditCommand words
 IsEditingError words rest rest' may_fail out out' (fault.Refused _) = ⊥
 

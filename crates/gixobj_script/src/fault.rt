@@ -48,6 +48,7 @@ fn line_for(alloc: Global, number: u64) -> SmallVec<u8, 40>
 }
 
 /// Writes a line, or a prefix of it if the sink has no more room.
+#[tactic(auto, using(gixobj_fields::proofs::Appends::appends_all_or_fails))]
 fn report_line<E: Sink>(line: &[u8], errors: &mut E)
     ensures reported { IsPrinted (E.view errors.old) (E.view errors.new) line.now }
     ensures same_loan { E.loan errors.new ≡ E.loan errors.old }

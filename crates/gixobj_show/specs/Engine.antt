@@ -2,7 +2,7 @@
 use Rattle.std.specs.Prelude.{◌≡◌, ◌⊎◌, ℕ, List, Option, codes}
 use Rattle.std.specs.Io.KnownBytes.{Consumes, IsAtEnd}
 use Rattle.gixobj_hash.specs.Decode.{IsShort}
-use Rattle.gixobj_fields.specs.Streams.{AppendsAll, AppendsPrefix, SinkView}
+use Rattle.gixobj_fields.specs.Streams.{AppendsAll, FailsToAppend, SinkView}
 use Rattle.gixobj_hash.specs.declared.hash.kind.Kind as hash
 use Rattle.gixobj_show.specs.Failure.{BeginsWithNoLooseHeader, exit_status_of, line_of}
 use Rattle.gixobj_show.specs.Show.{IsShowLine}
@@ -30,7 +30,7 @@ abbrev pub IsAnswerError : List (List ℕ) → Option (List ℕ) → Option (Lis
 IsAnswerError words rest rest' may_fail out out' Usage = IsOtherCommand words (codes "show")
 IsAnswerError words rest rest' may_fail out out' InputFailed = IsCommand words (codes "show") × may_fail
 IsAnswerError words rest rest' may_fail out out' OutputFailed = (line : List ℕ) × IsAnswer words rest rest' line
-    × AppendsPrefix out out' line
+    × FailsToAppend out out' line
 IsAnswerError words rest rest' may_fail out out' OutOfMemory = IsCommand words (codes "show")
 IsAnswerError words rest rest' may_fail out out' BadHeader =
     IsCommand words (codes "show") × (input : List ℕ) × ReadsAll rest rest' input × BeginsWithNoLooseHeader input
@@ -50,7 +50,7 @@ HasWrittenNothing unchanged _ = unchanged
 
 -- the line was written, or a proper prefix of it to a sink without room for it
 abbrev pub IsPrinted : SinkView → SinkView → List ℕ → Type 0
-IsPrinted errors errors' line = AppendsAll errors errors' line ⊎ AppendsPrefix errors errors' line
+IsPrinted errors errors' line = AppendsAll errors errors' line ⊎ FailsToAppend errors errors' line
 
 -- the run failed, and the status and the line on standard error report why; nothing was read if the arguments are
 -- invalid, and nothing was written to standard output, unless a write to it failed

@@ -7,16 +7,18 @@ use Rattle.gixobj_fields.proofs.Errors.{lacks_room_of_fewer, writing_error_appen
 use Rattle.gixobj_fields.specs.HeaderFormat.{encode_field}
 use Rattle.gixobj_fields.specs.Streams.{AppendsAll, AppendsPrefix, AppendsOrFails, SinkView}
 use Rattle.gixobj_fields.specs.Writing.{IsWritingError, LacksRoom, RejectedValue, RejectsNothing}
+use Rattle.std.specs.declared.io.Error as io
 use Rattle.gixobj_fields.specs.declared.encode.Error.{Error}
 use Rattle.gixobj_tag.specs.NameRule.{IsTagName}
 use Rattle.gixobj_tag.specs.TagFormat.{TagLines, encode_target}
 use Rattle.gixobj_tag.specs.TagWriting.{IsTagLinesError, IsNameValueError, IsNameLineError, IsTagPartsError}
 
 -- a byte is written, and then the rest
-pub appends_prefix_cons : (a b : SinkView) (byte : ℕ) (rest : List ℕ) → AppendsPrefix a b (byte ∷ []) → AppendsPrefix a b (byte ∷ rest)
+pub appends_prefix_cons : {cause : io.Error} (a b : SinkView) (byte : ℕ) (rest : List ℕ) → AppendsPrefix a b (byte ∷ []) cause
+    → AppendsPrefix a b (byte ∷ rest) cause
 appends_prefix_cons a b byte rest part = appends_prefix_first a b (byte ∷ []) rest part
 
-pub appends_or_fails_cons : {T E : Type 0} (r : Result T E) (a b c : SinkView) (byte : ℕ) (rest : List ℕ) → AppendsAll a b (byte ∷ [])
+pub appends_or_fails_cons : {T : Type 0} (r : Result T io.Error) (a b c : SinkView) (byte : ℕ) (rest : List ℕ) → AppendsAll a b (byte ∷ [])
     → AppendsOrFails r b c rest
     → AppendsOrFails r a c (byte ∷ rest)
 appends_or_fails_cons r a b c byte rest first more = appends_or_fails_append r a b c (byte ∷ []) rest first more
@@ -51,7 +53,7 @@ pub writing_error_of_lines : (tag : TagLines) (before after : SinkView) (bytes :
     → IsWritingError (IsTagLinesError tag) before after bytes error
 writing_error_of_lines tag before after bytes error says =
     writing_error_append (IsTagPartsError (encode_target tag) tag.name (λ value line. ⊥)) (IsTagLinesError tag) before before after [] bytes bytes
-    (appends_all_nil before) (tag_lines_error_of_parts_error tag) (λ prefix. prefix) error says
+    (appends_all_nil before) (tag_lines_error_of_parts_error tag) (λ cause prefix. prefix) error says
 
 -- ---- room for the parts before a rejected value
 

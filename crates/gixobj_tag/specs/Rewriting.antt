@@ -34,7 +34,7 @@ HasUnwritableTagger tag = (line : List ℕ) × (tag.tagger ≡ Some line) × IsU
 -- the error of writing a tag's owned form. Writer: the sink failed after a proper prefix; InvalidRefName or
 -- StartsWithDash: the name is invalid; IllegalActor: the tagger can't be written
 abbrev pub IsNormalizedTagError : TagLines → SinkView → SinkView → List ℕ → Error → Type 0
-IsNormalizedTagError tag before after bytes (error.Writer cause) = AppendsPrefix before after bytes
+IsNormalizedTagError tag before after bytes (error.Writer cause) = AppendsPrefix before after bytes cause
 IsNormalizedTagError tag before after bytes (error.InvalidRefName fault) = IsFirstFault tag.name fault
 IsNormalizedTagError tag before after bytes error.StartsWithDash = HasNoFault tag.name × BeginsWithDash tag.name
 IsNormalizedTagError tag before after bytes error.IllegalActor = HasUnwritableTagger tag

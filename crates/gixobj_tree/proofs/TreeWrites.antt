@@ -9,6 +9,7 @@ use Rattle.gixobj_hash.specs.ByteStrings.{IsByteFree}
 use Rattle.gixobj_tree.specs.TreeEncoding.{IsEntryEncodeError, IsTreeEncodeError, before_name, encode_entry, encode_tree}
 use Rattle.gixobj_tree.specs.TreeSizes.{encode_mode_and_name, with_ids}
 use Rattle.gixobj_fields.specs.Streams.{AppendsAll, AppendsPrefix, SinkView}
+use Rattle.std.specs.declared.io.Error as io
 use Rattle.gixobj_fields.specs.Writing.{IsWritingError, LacksRoom, RejectedValue}
 use Rattle.gixobj_fields.specs.declared.encode.Error.{Error}
 use Rattle.gixobj_fields.specs.declared.encode.Error.TheVariants.{OutOfMemory}
@@ -196,13 +197,14 @@ no_overflow_of_size items all i e size longer same h is so_far over short =
 -- ---- an entry
 
 -- a proper prefix of the mode and the space is one of the entry
-pub appends_prefix_of_mode : (a b : SinkView) (e : EntryView) → AppendsPrefix a b (before_name e) → AppendsPrefix a b (encode_entry e)
+pub appends_prefix_of_mode : {cause : io.Error} (a b : SinkView) (e : EntryView) → AppendsPrefix a b (before_name e) cause
+    → AppendsPrefix a b (encode_entry e) cause
 appends_prefix_of_mode a b e part = appends_prefix_first a b (before_name e ++ e.name) (0 ∷ id_bytes e.id)
     (appends_prefix_first a b (before_name e) e.name part)
 
 -- the mode, the space and a proper prefix of the name and the id are a proper prefix of the entry
-pub appends_prefix_of_entry : (a b c : SinkView) (e : EntryView) → AppendsAll a b (before_name e) → AppendsPrefix b c (e.name ++ 0 ∷ id_bytes e.id)
-    → AppendsPrefix a c (encode_entry e)
+pub appends_prefix_of_entry : {cause : io.Error} (a b c : SinkView) (e : EntryView) → AppendsAll a b (before_name e)
+    → AppendsPrefix b c (e.name ++ 0 ∷ id_bytes e.id) cause → AppendsPrefix a c (encode_entry e) cause
 appends_prefix_of_entry a b c e write_bytes part = rw (append_assoc (before_name e) e.name (0 ∷ id_bytes e.id))
     (appends_prefix_append a b c (before_name e) (e.name ++ 0 ∷ id_bytes e.id) write_bytes part)
 

@@ -28,7 +28,8 @@ impl Commit {
     /// # Errors
     ///
     /// - [`Error::Encode`], with its cause, if the payload can't be written: an actor or the message encoding
-    ///   is rejected, or an allocation for the encoding fails. No call is made.
+    ///   is rejected, or an allocation for the encoding fails (`Writer` of kind `OutOfMemory`). No call is
+    ///   made.
     /// - [`Error::MissingSigningKey`] if the key is empty. No call is made.
     /// - [`Error::TemporaryFile`], [`Error::Spawn`] or [`Error::Communicate`], with the runner's message, if
     ///   the runner returns that case.

@@ -66,8 +66,9 @@ pub fn owned_commit_has_same_parts()
 ///
 /// # Errors
 ///
-/// - [`Error::Writer`] if an allocation of the list fails. A proper prefix of the encoding is then appended.
-///   It is the only error of a decoded commit whose message encoding is absent or not empty.
+/// - [`Error::Writer`] of kind `OutOfMemory`, if an allocation of the list fails. A proper prefix of the
+///   encoding is then appended. It is the only error of a decoded commit whose message encoding is absent or
+///   not empty.
 /// - Otherwise an error of [`WriteTo::write_to_vec`].
 pub fn commit_decode_encode_agree(
     alloc: Global,

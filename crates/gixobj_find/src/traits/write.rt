@@ -42,7 +42,8 @@ pub trait Write {
     /// # Errors
     ///
     /// - [`Error::Encode`] with the error of the encoding, if a value of the object is rejected.
-    /// - [`Error::Encode`] with `Writer` or `OutOfMemory`, if an allocation for the encoding fails.
+    /// - [`Error::Encode`] with `Writer` of kind `OutOfMemory`, or with `OutOfMemory`, if an allocation for the
+    ///   encoding fails.
     /// - Any error that the store's `answers` states for this encoding.
     fn write<T: WriteTo>(&self, alloc: Global, object: &T) -> Result<ObjectId, Error>
         requires { T.can_write object.now }

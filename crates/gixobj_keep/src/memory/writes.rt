@@ -28,7 +28,8 @@ impl Memory {
     /// The store is unchanged.
     ///
     /// - [`Error::Encode`] with the error of the encoding, if a value of the object is rejected.
-    /// - [`Error::Encode`] with `Writer` or `OutOfMemory`, or [`Error::OutOfMemory`], if an allocation fails.
+    /// - [`Error::Encode`] with `Writer` of kind `OutOfMemory` or with `OutOfMemory`, or
+    ///   [`Error::OutOfMemory`], if an allocation fails.
     ///
     /// # Examples
     ///

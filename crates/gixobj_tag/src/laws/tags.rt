@@ -65,7 +65,8 @@ pub fn owned_tag_has_same_parts()
 ///
 /// # Errors
 ///
-/// - [`Error::Writer`] if an allocation of the list fails. A proper prefix of the encoding is then appended.
+/// - [`Error::Writer`] of kind `OutOfMemory`, if an allocation of the list fails. A proper prefix of the
+///   encoding is then appended.
 /// - [`Error::InvalidRefName`] or [`Error::StartsWithDash`] if the name is invalid. The lines before it are
 ///   then appended.
 pub fn tag_decode_encode_agree(

@@ -28,7 +28,8 @@ impl Tag {
     /// # Errors
     ///
     /// - [`Error::Encode`], with its cause, if the payload can't be written: the name or the tagger is
-    ///   rejected, or an allocation for the encoding fails. The runner isn't called.
+    ///   rejected, or an allocation for the encoding fails (`Writer` of kind `OutOfMemory`). The runner isn't
+    ///   called.
     /// - [`Error::OutOfMemory`] if another allocation fails, or if the runner returns that case.
     /// - [`Error::MissingSigningKey`], [`Error::TemporaryFile`], [`Error::Spawn`], [`Error::Communicate`],
     ///   [`Error::Failed`], [`Error::MissingSignatureConfirmation`] or [`Error::MissingSshSignature`] if

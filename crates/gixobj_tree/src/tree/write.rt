@@ -104,7 +104,7 @@ impl Tree {
     ///
     /// # Errors
     ///
-    /// - [`Error::Writer`] if the allocation of the encoding failed.
+    /// - [`Error::Writer`] of kind `OutOfMemory`, if the allocation of the encoding failed.
     /// - [`Error::NullbyteInFilename`] with a copy of the name, if a name has a zero byte.
     /// - [`Error::OutOfMemory`] if a name has a zero byte, and the allocation of the copy failed.
     ///

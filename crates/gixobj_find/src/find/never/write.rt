@@ -28,7 +28,7 @@ impl Write for Never {
     /// # Errors
     ///
     /// - [`Error::Encode`] with the error of the encoding, if a value of the object is rejected.
-    /// - [`Error::Encode`] with `Writer` or `OutOfMemory`, if an allocation fails.
+    /// - [`Error::Encode`] with `Writer` of kind `OutOfMemory`, or with `OutOfMemory`, if an allocation fails.
     fn write<T: WriteTo>(&self, alloc: Global, object: &T) -> Result<ObjectId, Error>
         requires { T.can_write object.now }
         ensures written { IsWrittenObject AnswersId (T.object_kind object.now)

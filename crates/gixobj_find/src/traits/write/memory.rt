@@ -31,7 +31,8 @@ impl Write for RefCell<Memory> {
     /// # Errors
     ///
     /// - [`Error::Encode`] with the error of the encoding, if a value of the object is rejected.
-    /// - [`Error::Encode`] with `Writer` or `OutOfMemory`, or [`Error::OutOfMemory`], if an allocation fails.
+    /// - [`Error::Encode`] with `Writer` of kind `OutOfMemory` or with `OutOfMemory`, or
+    ///   [`Error::OutOfMemory`], if an allocation fails.
     /// - [`Error::Store`] if the cell is borrowed.
     fn write<T: WriteTo>(&self, alloc: Global, object: &T) -> Result<ObjectId, Error> {
         let mut content = Vec::new(alloc);

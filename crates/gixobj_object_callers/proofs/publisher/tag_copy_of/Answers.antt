@@ -23,5 +23,5 @@ returns-in-Err-write_to_vec-clause-error c = λ tag is valid.
     let nothing = subst (λ (it : TagLines). RejectsNothing (IsTagLinesError it)) same (c.tag_reencodes_identically.ensures.no_error tag valid) in
     let fails = c.write_error_implies_sink_error.ensures (list_view c.new-copy.result) (list_view c.write_to_vec.new.out) c.in-Err-write_to_vec.error nothing
     c.in-Err-write_to_vec.ensures.error in
-    fails_for_room_of_write (list_view c.new-copy.result) (list_view c.write_to_vec.new.out)
+    fails_for_room_of_write (list_view c.new-copy.result) c.write_to_vec.new.out
     (encode_tag (tag_lines c.in-Ok.tag)) c.in-Err-write_to_vec.error fails

@@ -24,5 +24,5 @@ returns-clause-error c = λ commit is some.
     (c.commit_reencodes_identically.ensures.no_error c.args.kind c.args.bytes.now commit is some) in
     let fails = c.write_error_implies_sink_error.ensures (list_view c.new-copy.result) (list_view c.write_to_vec.new.out) c.in-Err-write_to_vec.error nothing
     c.in-Err-write_to_vec.ensures.error in
-    fails_for_room_of_write (list_view c.new-copy.result) (list_view c.write_to_vec.new.out) (encode_commit (in_lower_case (commit_lines c.in-Ok.commit)))
+    fails_for_room_of_write (list_view c.new-copy.result) c.write_to_vec.new.out (encode_commit (in_lower_case (commit_lines c.in-Ok.commit)))
     c.in-Err-write_to_vec.error fails

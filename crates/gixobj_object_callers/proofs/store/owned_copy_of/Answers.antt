@@ -31,4 +31,4 @@ returns-clause-error c = λ commit is.
     let rejected = c.owned_commit_has_same_parts.ensures.error c.args.kind c.args.bytes.now lines own before after c.in-Err-write_to_vec.error
     c.in-Ok.ensures.found c.in-Ok-into_owned.ensures.owned c.in-Err-write_to_vec.ensures.error in
     subst (λ (it : CommitLines). FailsForPart it (Write c.in-Err-write_to_vec.error)) same
-    (fails_for_part_of_write lines before after (encode_commit (owned_commit_lines own)) c.in-Err-write_to_vec.error rejected)
+    (fails_for_part_of_write lines before c.write_to_vec.new.out (encode_commit (owned_commit_lines own)) c.in-Err-write_to_vec.error rejected)

@@ -12,7 +12,7 @@ returns-in-Err-clause-error c = λ all.
     let nothing = c.tree_reencodes_identically.ensures.no_error c.args.kind (encode_tree c.args.tree.now) c.args.tree.now is in
     let fails = c.write_error_implies_sink_error.ensures (list_view c.new-bytes.result) (list_view c.write_to_vec.new.out) c.in-Err.error nothing
     c.in-Err.ensures.error in
-    fails_for_room_of_write (list_view c.new-bytes.result) (list_view c.write_to_vec.new.out) (encode_tree c.args.tree.now) c.in-Err.error fails
+    fails_for_room_of_write (list_view c.new-bytes.result) c.write_to_vec.new.out (encode_tree c.args.tree.now) c.in-Err.error fails
 
 pub returns-in-Err-from_bytes-clause-error : goal.returns-in-Err-from_bytes-clause-error
 returns-in-Err-from_bytes-clause-error c = λ all.

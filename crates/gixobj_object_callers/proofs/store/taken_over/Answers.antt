@@ -1,6 +1,5 @@
-use Rattle.std.proofs.Common.{Some, ap, subst}
+use Rattle.std.proofs.Common.{subst}
 use Rattle.gix_object.specs.LooseObjects.{IsLooseObject}
-use Rattle.gix_object.specs.Streams.{list_view}
 use Rattle.gix_object.specs.hash.hash.kind.Kind.{Kind}
 use Rattle.gixobj_object_callers.proofs.store.taken_over.Goals as goal
 
@@ -10,9 +9,9 @@ returns-in-Err-write_to_vec-clause-error c =
       c.in-Ok.object,
       read,
       (
-        list_view c.new-bytes.result,
-        list_view c.write_to_vec.new.out,
-        ap Some c.new-bytes.ensures.items,
+        c.new-bytes.result,
+        c.write_to_vec.new.out,
+        c.new-bytes.ensures.items,
         c.in-Err-write_to_vec.ensures.error,
       ),
     )

@@ -20,5 +20,5 @@ returns-clause-error c = λ entries is.
     let nothing = c.tree_reencodes_identically.ensures.no_error c.args.kind c.args.bytes.now (tree_entries c.in-Ok.tree) c.in-Ok.ensures.found in
     let fails = c.write_error_implies_sink_error.ensures (list_view c.new-written.result) (list_view c.write_to_vec.new.out) c.in-Err-write_to_vec.error nothing
     c.in-Err-write_to_vec.ensures.error in
-    fails_for_room_of_write (list_view c.new-written.result) (list_view c.write_to_vec.new.out)
+    fails_for_room_of_write (list_view c.new-written.result) c.write_to_vec.new.out
     (encode_tree (tree_entries c.in-Ok.tree)) c.in-Err-write_to_vec.error fails

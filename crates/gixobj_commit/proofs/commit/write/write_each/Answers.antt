@@ -1,7 +1,7 @@
 -- The fields are written one after the other.
 use Rattle.std.proofs.Common.{ℕ, List, ap, take, refl, subst, ◌∙◌}
 use Rattle.std.proofs.lemmas.List.{take_all}
-use Rattle.std.proofs.lemmas.Result.{MatchResult-from_err}
+use Rattle.std.proofs.lemmas.Result.{err_from_is_err_and}
 use Rattle.std.specs.List.{flat_map}
 use Rattle.gixobj_fields.proofs.Joins.{appends_prefix_of_item, flat_map_take_succ}
 use Rattle.gixobj_fields.proofs.Appends.{appends_all_append, appends_all_nil}
@@ -21,9 +21,9 @@ loop-field-preserved g c = record {
 
 pub returns-in_err-write_bytes-clause-appended : goal.returns-in_err-write_bytes-clause-appended
 returns-in_err-write_bytes-clause-appended g c =
-    MatchResult-from_err _ _ _ c.from_residual.ensures.0
-    (λ _. appends_prefix_of_item g.T.Field.written _ _ _ c.args.fields.now c.loop-field.field-index c.field-item.result c.loop-field-test.true c.field-item.is
-    c.loop-field.invariant.appended c.in_err-write_bytes.ensures.appended)
+    let from = err_from_is_err_and c.from_residual.result c.from_residual.ensures.1 in
+    rw (from.1, from.2) (appends_prefix_of_item g.T.Field.written _ _ _ c.args.fields.now c.loop-field.field-index c.field-item.result c.loop-field-test.true
+    c.field-item.is c.loop-field.invariant.appended c.in_err-write_bytes.ensures.appended)
 
 pub returns-clause-appended : goal.returns-clause-appended
 returns-clause-appended g c =

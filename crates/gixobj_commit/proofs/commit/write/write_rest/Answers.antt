@@ -17,7 +17,7 @@ returns-in_err-write_encoding-clause-error g c =
     let headers : List ℕ = flat_map g.T.Field.written c.args.headers.now in
     let message : List ℕ = 10 ∷ c.args.message.now in
     rw (from.1, from.2) (writing_error_longer (IsEncodingLineError (bytes_if_some c.args.encoding)) _ _ encoding ((encoding ++ headers) ++ message)
-    (λ part. appends_prefix_first _ _ (encoding ++ headers) message (appends_prefix_first _ _ encoding headers part)) c.in_err-write_encoding.field-0.0
+    (λ cause part. appends_prefix_first _ _ (encoding ++ headers) message (appends_prefix_first _ _ encoding headers part)) c.in_err-write_encoding.field-0.0
     c.in_err-write_encoding.ensures.error)
 
 pub returns-in_err-write_each-clause-error : goal.returns-in_err-write_each-clause-error

@@ -28,7 +28,7 @@ returns-in_err-write_name-clause-error g c =
     rw (from.1, from.2) (writing_error_append (IsNameLineError (bstr_bytes c.args.name))
     (IsTagPartsError prefix (bstr_bytes c.args.name) (g.A.Tagger.rejects c.args.tagger.now)) _ _ _ prefix name ((prefix ++ name) ++ tagger)
     c.in_ok-write_target.ensures.appended (parts_error_of_name prefix (bstr_bytes c.args.name) (g.A.Tagger.rejects c.args.tagger.now))
-    (λ part. appends_prefix_first _ _ (prefix ++ name) tagger (appends_prefix_append _ _ _ prefix name c.in_ok-write_target.ensures.appended part))
+    (λ cause part. appends_prefix_first _ _ (prefix ++ name) tagger (appends_prefix_append _ _ _ prefix name c.in_ok-write_target.ensures.appended part))
     c.in_err-write_name.field-0.0
     c.in_err-write_name.ensures.error)
 
@@ -59,7 +59,7 @@ returns-clause-error g c =
     (prefix ++ name) tagger ((prefix ++ name) ++ tagger)
     before (λ value parts. parts_error_of_tagger prefix (bstr_bytes c.args.name)
     (g.A.Tagger.rejects c.args.tagger.now) value parts c.in_ok-write_name.ensures.valid)
-    (appends_prefix_append _ _ _ (prefix ++ name) tagger before)) c.write_tagger.ensures.error
+    (λ cause. appends_prefix_append _ _ _ (prefix ++ name) tagger before)) c.write_tagger.ensures.error
 
 pub returns-in_err-write_target-clause-room : goal.returns-in_err-write_target-clause-room
 returns-in_err-write_target-clause-room g c =

@@ -18,7 +18,7 @@ returns-in_err-write_lines-clause-error g c =
     let lines : List ℕ = (prefix ++ encode_field (codes "tag") (bstr_bytes c.args.name)) ++ g.A.Tagger.tagger_line c.args.tagger.now in
     let body = encode_body (bstr_bytes c.args.message) (bytes_if_some c.args.signature) in
     rw (from.1, from.2) (writing_error_longer (IsTagPartsError prefix (bstr_bytes c.args.name) (g.A.Tagger.rejects c.args.tagger.now)) _ _ lines (lines ++ body)
-    (λ part. appends_prefix_first _ _ lines body part) c.in_err-write_lines.field-0.0 c.in_err-write_lines.ensures.error)
+    (λ cause part. appends_prefix_first _ _ lines body part) c.in_err-write_lines.field-0.0 c.in_err-write_lines.ensures.error)
 
 pub returns-in_err-write_body-clause-error : goal.returns-in_err-write_body-clause-error
 returns-in_err-write_body-clause-error g c =

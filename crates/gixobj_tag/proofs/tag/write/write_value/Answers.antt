@@ -1,12 +1,13 @@
 -- The newline follows the value.
 use Rattle.std.proofs.Common.{[], ◌∷◌}
-use Rattle.std.proofs.lemmas.Result.{MatchResult-from_err}
+use Rattle.std.proofs.lemmas.Result.{err_from_is_err_and}
 use Rattle.gixobj_fields.proofs.Appends.{appends_prefix_first, appends_or_fails_append}
 use Rattle.gixobj_tag.proofs.tag.write.write_value.Goals as goal
 
 pub returns-in_err-write_bytes-clause-appended : goal.returns-in_err-write_bytes-clause-appended
 returns-in_err-write_bytes-clause-appended g c =
-    MatchResult-from_err _ _ _ c.from_residual.ensures.0 (λ _. appends_prefix_first _ _ c.args.value.now (10 ∷ []) c.in_err-write_bytes.ensures.appended)
+    let from = err_from_is_err_and c.from_residual.result c.from_residual.ensures.1 in
+    rw (from.1, from.2) (appends_prefix_first _ _ c.args.value.now (10 ∷ []) c.in_err-write_bytes.ensures.appended)
 
 pub returns-clause-appended : goal.returns-clause-appended
 returns-clause-appended g c = appends_or_fails_append _ _ _ _ c.args.value.now (10 ∷ []) c.in_ok-write_bytes.ensures.appended c.write_bytes-2.ensures.appended

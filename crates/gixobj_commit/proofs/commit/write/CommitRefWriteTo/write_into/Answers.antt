@@ -85,7 +85,7 @@ returns-clause-error g c =
     c.as_bytes-author.result.now
     c.as_bytes-committer.result.now value parts (decoded_id_decodes (bstr_bytes c.args.self.now.tree) c.requires.tree) c.as_slice-parents.ensures
     c.as_bytes-author.ensures c.as_bytes-committer.ensures)
-    (appends_fourth_of_four _ _ _ _ _ _ _ _ _ _ entire c.in_ok-write_hex_ids.ensures.appended c.in_ok-trusted_header_field.ensures.appended
+    (λ cause. appends_fourth_of_four _ _ _ _ _ _ _ _ _ _ entire c.in_ok-write_hex_ids.ensures.appended c.in_ok-trusted_header_field.ensures.appended
     c.in_ok-trusted_header_field-2.ensures.appended))
     c.write_rest.ensures.error
 

@@ -28,7 +28,7 @@ returns-in_err-trusted_header_signature-clause-error g c =
     (g.S.Sink.view c.args.sink.now) (g.S.Sink.view c.write_ids.new.sink) (g.S.Sink.view c.trusted_header_signature.new.sink) _ _ _
     c.in_ok-write_ids.ensures.appended
     (λ value parts. owned_commit_error_of_author c.args.self.now c.as_slice-parents.result.now value parts c.as_slice-parents.ensures)
-    (appends_second_of_four _ _ _ _ _ _ _ _ entire c.in_ok-write_ids.ensures.appended)
+    (λ cause. appends_second_of_four _ _ _ _ _ _ _ _ entire c.in_ok-write_ids.ensures.appended)
     c.in_err-trusted_header_signature.field-0.0 c.in_err-trusted_header_signature.ensures.error)
 
 pub returns-in_err-trusted_header_signature-2-clause-error : goal.returns-in_err-trusted_header_signature-2-clause-error
@@ -42,7 +42,7 @@ returns-in_err-trusted_header_signature-2-clause-error g c =
     (appends_all_append _ _ _ _ _ c.in_ok-write_ids.ensures.appended c.in_ok-trusted_header_signature.ensures.written)
     (λ value parts. owned_commit_error_of_committer c.args.self.now c.as_slice-parents.result.now value parts c.as_slice-parents.ensures
     c.in_ok-trusted_header_signature.ensures.encodable)
-    (appends_third_of_four _ _ _ _ _ _ _ _ _ entire c.in_ok-write_ids.ensures.appended c.in_ok-trusted_header_signature.ensures.written)
+    (λ cause. appends_third_of_four _ _ _ _ _ _ _ _ _ entire c.in_ok-write_ids.ensures.appended c.in_ok-trusted_header_signature.ensures.written)
     c.in_err-trusted_header_signature-2.field-0.0 c.in_err-trusted_header_signature-2.ensures.error)
 
 pub returns-clause-written : goal.returns-clause-written
@@ -76,7 +76,7 @@ returns-clause-error g c =
     (λ value parts. owned_commit_error_of_encoding c.args.self.now c.as_slice-parents.result.now c.borrowed-encoding.result value parts
     c.as_slice-parents.ensures
     c.borrowed-encoding.ensures c.in_ok-trusted_header_signature.ensures.encodable c.in_ok-trusted_header_signature-2.ensures.encodable)
-    (appends_fourth_of_four _ _ _ _ _ _ _ _ _ _ entire c.in_ok-write_ids.ensures.appended c.in_ok-trusted_header_signature.ensures.written
+    (λ cause. appends_fourth_of_four _ _ _ _ _ _ _ _ _ _ entire c.in_ok-write_ids.ensures.appended c.in_ok-trusted_header_signature.ensures.written
     c.in_ok-trusted_header_signature-2.ensures.written))
     c.write_rest.ensures.error
 
