@@ -66,7 +66,7 @@ module _ (dirs bases : Dirs) where
     below = it.below;
     back = it.back ++ back;
     count = it.count;
-    place = is ∙ ap (λ (ps : List Pair). head ++ (ps ++ back)) it.place ∙ simp append_assoc;
+    split = is ∙ ap (λ (ps : List Pair). head ++ (ps ++ back)) it.split ∙ simp append_assoc;
     emits = it.emits;
   }
 
@@ -154,7 +154,7 @@ module _ (dirs bases : Dirs) (name : List ℕ) where
   own_inside : (part : List Pair) (path : Path) (own : List EntryView) → IsOwnTree (in_dir name dirs) (in_dir name bases) part path own
       → IsOwnTree dirs bases part (name ∷ path) own
   own_inside part path own it =
-      record { prefix = it.prefix; below = it.below; back = it.back; count = it.count; place = it.place; emits = it.emits }
+      record { prefix = it.prefix; below = it.below; back = it.back; count = it.count; split = it.split; emits = it.emits }
 
   changed_inside : (part : List Pair) (it : Sent) → IsChanged (in_dir name dirs) (in_dir name bases) part it
       → IsChanged dirs bases part (inside name it)
@@ -287,7 +287,7 @@ module _ (dirs bases : Dirs) (name : List ℕ) where
 
 written_tree_in_dir : (dirs bases : Dirs) (name : List ℕ) (inner back : List Pair) (own : List EntryView) (count : ℕ)
     → EmitsBelow (in_dir name dirs) (in_dir name bases) inner own count → IsOwnTree dirs bases (inner ++ back) (name ∷ []) own
-written_tree_in_dir dirs bases name inner back own count it = record { prefix = []; below = inner; back = back; count = count; place = refl; emits = it }
+written_tree_in_dir dirs bases name inner back own count it = record { prefix = []; below = inner; back = back; count = count; split = refl; emits = it }
 
 all_changed_nil : (dirs bases : Dirs) (pairs : List Pair) → All (IsChanged dirs bases pairs) []
 all_changed_nil dirs bases pairs = All-nil (IsChanged dirs bases pairs)

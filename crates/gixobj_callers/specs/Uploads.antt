@@ -42,7 +42,7 @@ module _ (dirs bases : Dirs) (pairs : List Pair) where
     pub below : List Pair
     pub back : List Pair
     pub count : ℕ
-    pub place : pairs ≡ prefix ++ (below ++ back)
+    pub split : pairs ≡ prefix ++ (below ++ back)
     pub emits : EmitsBelow (in_path path dirs) (in_path path bases) below own count
 
   -- a changed directory: its written tree isn't its base

@@ -5,7 +5,7 @@ use Rattle.std.proofs.lemmas.List.{map-append}
 use Rattle.std.specs.Iterator.{Yields}
 use Rattle.bstr.specs.BStr.{bstr_bytes}
 use Rattle.bstr.specs.declared.bstr.BStr.{BStr}
-use Rattle.gixobj_commit.specs.ExtraHeaders.{FindsPlace, Gave, NextValue, HasNoHeaderNamed, header_at, pair_of}
+use Rattle.gixobj_commit.specs.ExtraHeaders.{FindsPosition, Gave, NextValue, HasNoHeaderNamed, header_at, pair_of}
 
 pub no_header_named_in_nil : (name : List ℕ) → HasNoHeaderNamed name (map pair_of [])
 no_header_named_in_nil name = All-nil (λ it. it.name ≢ name)
@@ -38,9 +38,9 @@ module _ {S : Type 0} (steps : S → Option (BStr × BStr) → S → Type 0) (na
   value_passed from at to others key value lacks yielded step named =
       (others ++ (key, value) ∷ [], first_passed from at to others key value lacks yielded step named)
 
-  pub place_passed : (start from at to : S) (others : List (BStr × BStr)) (key value : BStr) (place : ℕ) → place ≡ length others
+  pub index_consumed : (start from at to : S) (others : List (BStr × BStr)) (key value : BStr) (index : ℕ) → index ≡ length others
       → HasNoHeaderNamed name (map pair_of others) → from ≡ start
-      → Yields steps from others at → steps at (Some (key, value)) to → bstr_bytes key ≡ name → FindsPlace steps name start (Some place)
-  place_passed start from at to others key value place counted lacks same yielded step named =
+      → Yields steps from others at → steps at (Some (key, value)) to → bstr_bytes key ≡ name → FindsPosition steps name start (Some index)
+  index_consumed start from at to others key value index counted lacks same yielded step named =
       let passed = first_passed start at to others key value lacks (subst (λ it. Yields steps it others at) same yielded) step named in
       (others ++ (key, value) ∷ [], to, (value, passed, omega (arith, counted, length-append others ((key, value) ∷ []))))

@@ -243,10 +243,10 @@ fn write_settled<E, F: FnMut(&Tree) -> Result<ObjectId, E>>(
 {
     let mut trees = Vec::new(alloc);
     let mut saved = 0;
-    let (own, placed) = emit_below_copied(alloc, node, out, &mut trees, &mut saved)?;
+    let (own, is_written) = emit_below_copied(alloc, node, out, &mut trees, &mut saved)?;
     let mut complete_trees = Vec::with_capacity(alloc, trees.len())?;
     let id = emit(&own, out, &mut trees)?;
-    become_own(&mut node.entries, &own, placed);
+    become_own(&mut node.entries, &own, is_written);
     let children = mem::replace(&mut node.children, Children::new(alloc));
     take_leaf_trees(children, &mut complete_trees);
     fill(&mut trees, complete_trees);
@@ -254,15 +254,15 @@ fn write_settled<E, F: FnMut(&Tree) -> Result<ObjectId, E>>(
     Ok(Written { id, trees, saved })
 }
 
-/// Makes a directory's entries those of its written tree, which they already are if `placed`.
-fn become_own(entries: &mut Entries, own: &Tree, placed: bool)
+/// Makes a directory's entries those of its written tree, which they already are if `is_written`.
+fn become_own(entries: &mut Entries, own: &Tree, is_written: bool)
     requires well_formed { IsWellFormed own.now }
     requires filtered { IsFilteredTree own.now entries.old }
     requires non_null { All (λ e. IsFalse (is_null e.id)) own.now }
-    requires is_at { IsTrue placed → own.now ≡ entries.old }
+    requires is_at { IsTrue is_written → own.now ≡ entries.old }
     ensures { entries.new ≡ own.now }
 {
-    if !placed {
+    if !is_written {
         entries.become_tree(own);
     }
 }
@@ -339,9 +339,9 @@ fn write_recursively<E, F: FnMut(&Tree) -> Result<ObjectId, E>>(
     let Some((name, rest)) = path.split_first() else {
         return write_all(alloc, node, out);
     };
-    let Some(place) = node.children.position(name) else {
+    let Some(child_position) = node.children.position(name) else {
         unreachable!()
     };
-    let child = node.children.at_mut(place);
+    let child = node.children.at_mut(child_position);
     write_recursively(alloc, &mut child.open, rest, out)
 }

@@ -29,7 +29,7 @@ use Rattle.gixobj_editor.proofs.Keeping.{AgreesThroughout, agrees_throughout_pre
 use Rattle.gixobj_editor.proofs.Named.{agrees_with_run_prefix, agrees_later, agrees_with_written_pairs, ensured_keeps, command_keeps, edit_keeps, names_history}
 use Rattle.gixobj_editor.proofs.Reported.{mode_of_kind_not_tree, plain_history_of_prefix, known_by_trees, is_up_to_of_same_files}
 use Rattle.gixobj_editor.proofs.PlainRuns.{AreBuilt, IsPlainState, Within, plain_ensured, plain_below, plain_failed, plain_removed, plain_root, plain_upserted}
-use Rattle.gixobj_editor.specs.Commands.{Place, at_cursor, at_root, kept_of, kept_of_edit, emitted_pairs, kept_pairs, pairs_of, pairs_of_edit, written_at, written_by}
+use Rattle.gixobj_editor.specs.Commands.{Location, at_cursor, at_root, kept_of, kept_of_edit, emitted_pairs, kept_pairs, pairs_of, pairs_of_edit, written_at, written_by}
 use Rattle.gixobj_editor.specs.PlainRuns.{IdsDetermineFiles, IsPlainRun, NamesNoTree, InsertsNoTree, files_before}
 use Rattle.gixobj_editor.specs.Replies.{Answers, AreEditReplies, ReturnsTreeId, IsEditReply, IsReply, IsReplyAt, IsRun, IsWriteKept, IsWrittenAt}
 use Rattle.gixobj_editor.specs.RunTables.{AgreesWithObjects, AgreesWithRun}
@@ -52,56 +52,56 @@ module _ {S E : Type 0} (model : StoreModel S) (answers : Answers E) (T : Table)
   same_state : (old new : State S) → new ≡ old → Holds old → Holds new
   same_state old new same holds = subst (λ (s : State S). Holds s) (sym same) holds
 
-  written_plain : (place : Place) (old new : State S) (it : Written) → IsWrittenAt answers place it old new → Holds old
+  written_plain : (location : Location) (old new : State S) (it : Written) → IsWrittenAt answers location it old new → Holds old
       → Within T pairs known it.trees.items
       → Holds new × AreBuilt T pairs known it.trees.items
   written_plain at_root old new it h holds within = plain_root T pairs known (ReturnsTreeId answers) tt tt old new it holds h within
   written_plain (at_cursor prefix) old new it h holds within =
       plain_below T pairs known (ReturnsTreeId answers) tt tt old new prefix it holds h within
 
-  write_plain : (place : Place) (old new : State S) (it : Written) (Keeps : Objects → Objects → Type 0)
-      → IsWriteKept model (IsWrittenAt answers place it old) Keeps old new → Holds old → Within T pairs known it.trees.items → Holds new
+  write_plain : (location : Location) (old new : State S) (it : Written) (Keeps : Objects → Objects → Type 0)
+      → IsWriteKept model (IsWrittenAt answers location it old) Keeps old new → Holds old → Within T pairs known it.trees.items → Holds new
       × AreBuilt T pairs known it.trees.items
-  write_plain place old new it Keeps h holds within = let so = written_plain place old h.between it h.written holds within in
+  write_plain location old new it Keeps h holds within = let so = written_plain location old h.between it h.written holds within in
       (subst (λ (s : State S). Holds s) (sym h.rest) so.0, so.1)
 
-  edit_plain : (place : Place) (old new : State S) (it : Edit) (its_reply : EditReply E) → InsertsNoTree it
-      → IsEditReply model answers place old it its_reply new → AgreesWithObjects T (model.objects old.store) → Holds old
+  edit_plain : (location : Location) (old new : State S) (it : Edit) (its_reply : EditReply E) → InsertsNoTree it
+      → IsEditReply model answers location old it its_reply new → AgreesWithObjects T (model.objects old.store) → Holds old
       → Within T pairs known (pairs_of_edit its_reply)
       → Holds new × AreBuilt T pairs known (pairs_of_edit its_reply)
-  edit_plain place old new (edit.Upsert path k id) edit_reply.Done other h agrees holds within = let it =
+  edit_plain location old new (edit.Upsert path k id) edit_reply.Done other h agrees holds within = let it =
       agreed old _ agrees h in (plain_upserted T pairs known it.0 it.1 old new holds _ _ _ (mode_of_kind_not_tree k other) it.2, tt)
-  edit_plain place old new (edit.Upsert path k id) (edit_reply.Refused error) other h agrees holds within = let it =
+  edit_plain location old new (edit.Upsert path k id) (edit_reply.Refused error) other h agrees holds within = let it =
       agreed old _ agrees h.0.effect in (plain_failed T pairs known it.0 it.1 old new holds model _ error it.2, tt)
-  edit_plain place old new (edit.Remove path) edit_reply.Done other h agrees holds within = let it =
+  edit_plain location old new (edit.Remove path) edit_reply.Done other h agrees holds within = let it =
       agreed old _ agrees h in (plain_removed T pairs known it.0 it.1 old new holds _ it.2, tt)
-  edit_plain place old new (edit.Remove path) (edit_reply.Refused error) other h agrees holds within = let it =
+  edit_plain location old new (edit.Remove path) (edit_reply.Refused error) other h agrees holds within = let it =
       agreed old _ agrees h.effect in (plain_failed T pairs known it.0 it.1 old new holds model _ error it.2, tt)
-  edit_plain place old new (edit.RemoveLeaf path) edit_reply.Done other h agrees holds within = let it =
+  edit_plain location old new (edit.RemoveLeaf path) edit_reply.Done other h agrees holds within = let it =
       agreed old _ agrees h in (plain_removed T pairs known it.0 it.1 old new holds _ it.2.removed, tt)
-  edit_plain place old new (edit.RemoveLeaf path) (edit_reply.Refused error) other h agrees holds within = let it =
+  edit_plain location old new (edit.RemoveLeaf path) (edit_reply.Refused error) other h agrees holds within = let it =
       agreed old _ agrees h.effect in (plain_failed T pairs known it.0 it.1 old new holds model _ error it.2, tt)
-  edit_plain place old new edit.Write (edit_reply.Written written) other h agrees holds within = write_plain place old new written _ h holds within
-  edit_plain place old new edit.Write (edit_reply.NotKept written count error) other h agrees holds within =
-      write_plain place old new written _ h holds within
-  edit_plain place old new edit.Write (edit_reply.WriteRefused error) other h agrees holds within = (same_state old new h.unchanged holds, tt)
-  edit_plain place old new it its_reply other h agrees holds within = absurd h
+  edit_plain location old new edit.Write (edit_reply.Written written) other h agrees holds within = write_plain location old new written _ h holds within
+  edit_plain location old new edit.Write (edit_reply.NotKept written count error) other h agrees holds within =
+      write_plain location old new written _ h holds within
+  edit_plain location old new edit.Write (edit_reply.WriteRefused error) other h agrees holds within = (same_state old new h.unchanged holds, tt)
+  edit_plain location old new it its_reply other h agrees holds within = absurd h
 
-  edits_plain : (place : Place) (old new : State S) (edits : List Edit) (replies : List (EditReply E)) → AllByRecursion InsertsNoTree edits
-      → AreEditReplies model answers place old edits replies new → AgreesThroughout T (flat_map kept_of_edit replies) (model.objects old.store)
+  edits_plain : (location : Location) (old new : State S) (edits : List Edit) (replies : List (EditReply E)) → AllByRecursion InsertsNoTree edits
+      → AreEditReplies model answers location old edits replies new → AgreesThroughout T (flat_map kept_of_edit replies) (model.objects old.store)
       → Holds old
       → Within T pairs known (flat_map pairs_of_edit replies) → Holds new × AreBuilt T pairs known (flat_map pairs_of_edit replies)
-  edits_plain place old new [] [] other h agrees holds within = (same_state old new h holds, tt)
-  edits_plain place old new (it ∷ edits) (r ∷ replies) other (between, first, rest) agrees holds within =
-      let one = edit_plain place old between it r other.0 first (agrees zero) holds
+  edits_plain location old new [] [] other h agrees holds within = (same_state old new h holds, tt)
+  edits_plain location old new (it ∷ edits) (r ∷ replies) other (between, first, rest) agrees holds within =
+      let one = edit_plain location old between it r other.0 first (agrees zero) holds
       (all_remaining (λ pair. Contains pairs pair) (pairs_of_edit r) (flat_map pairs_of_edit replies) within) in
-      let more = edits_plain place between new edits replies other.1 rest
+      let more = edits_plain location between new edits replies other.1 rest
       (agrees_throughout_suffix T (kept_of_edit r) (flat_map kept_of_edit replies) (model.objects old.store) (model.objects between.store)
-      (edit_keeps model answers place old between it r first) agrees) one.0
+      (edit_keeps model answers location old between it r first) agrees) one.0
       (all_right (λ pair. Contains pairs pair) (pairs_of_edit r) (flat_map pairs_of_edit replies) within) in
       (more.0, all_joined (HasBuilt pairs) (pairs_of_edit r) (flat_map pairs_of_edit replies) one.1 more.1)
-  edits_plain place old new [] (r ∷ replies) other h agrees holds within = absurd h
-  edits_plain place old new (it ∷ edits) [] other h agrees holds within = absurd h
+  edits_plain location old new [] (r ∷ replies) other h agrees holds within = absurd h
+  edits_plain location old new (it ∷ edits) [] other h agrees holds within = absurd h
 
   at_plain : (prefix : Path) (old new : State S) (edits : List Edit) (its_reply : Reply E) → AllByRecursion InsertsNoTree edits
       → IsReplyAt model answers prefix old edits its_reply new → AgreesThroughout T (kept_of its_reply) (model.objects old.store) → Holds old

@@ -72,8 +72,8 @@ folded_of_one_line line free = folded_of_value_lines (line ++ 10 ∷ []) line []
 -- a last line is its own encoding if its last byte is a newline
 pub folded_of_last_line : (value : List ℕ) → IsLastLine value → slice_get value (length value - 1) ≡ Some 10 → folded value ≡ value
 folded_of_last_line value (inl free) ends =
-    let place = length value - 1 in
-    absurd (All-get_or (λ (it : ℕ). it ≢ 10) value place 0 (slice_get_within value place 10 ends) free (get_or_from_slice_get value place 10 0 ends))
+    let index = length value - 1 in
+    absurd (All-get_or (λ (it : ℕ). it ≢ 10) value index 0 (slice_get_within value index 10 ends) free (get_or_from_slice_get value index 10 0 ends))
 folded_of_last_line value (inr (line, is, free)) ends = rw is (folded_of_one_line line free)
 
 pub folded_of_open_line : (value : List ℕ) → IsLastLine value → (last : ℕ) → slice_get value (length value - 1) ≡ Some last → last ≢ 10
@@ -81,8 +81,8 @@ pub folded_of_open_line : (value : List ℕ) → IsLastLine value → (last : �
 folded_of_open_line value (inl free) last ends other = folded_of_newline_free value free
 folded_of_open_line value (inr (line, is, free)) last ends other =
     let len : length value ≡ length line + 1 = ap length is ∙ length-append line (10 ∷ []) in
-    let place : length value - 1 ≡ length line = omega arith in
-    let found : get_or value (length line) 0 ≡ last = ap (λ (it : ℕ). get_or value it 0) (sym place) ∙ get_or_from_slice_get value
+    let index : length value - 1 ≡ length line = omega arith in
+    let found : get_or value (length line) 0 ≡ last = ap (λ (it : ℕ). get_or value it 0) (sym index) ∙ get_or_from_slice_get value
     (length value - 1) last 0 ends in
     let is_at : get_or value (length line) 0 ≡ 10 = ap (λ (it : List ℕ). get_or it (length line) 0) is ∙ get_or-append_seam line 10 [] 0 in
     absurd (other (sym found ∙ is_at))

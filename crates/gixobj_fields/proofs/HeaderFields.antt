@@ -100,8 +100,8 @@ pub no_id_without_newline : (name : List ℕ) (kind : Kind) (input line : List �
     → get_or line len 0 ≢ 10 → BeginsWithNoIdField name kind input
 no_id_without_newline name kind input line len joined long other hex rest has =
     let cut : line ≡ hex ++ 10 ∷ rest = field_line_is_value_and_rest name input line hex rest joined has.0 in
-    let placed : len ≡ length hex = long ∙ sym has.1.0 in
-    other (ap (λ (it : List ℕ). get_or it len 0) cut ∙ ap (λ (it : ℕ). get_or (hex ++ 10 ∷ rest) it 0) placed ∙ get_or-append_seam hex 10 rest 0)
+    let len_eq : len ≡ length hex = long ∙ sym has.1.0 in
+    other (ap (λ (it : List ℕ). get_or it len 0) cut ∙ ap (λ (it : ℕ). get_or (hex ++ 10 ∷ rest) it 0) len_eq ∙ get_or-append_seam hex 10 rest 0)
 
 prefix_unique_of_length : (a x b y : List ℕ) → a ++ x ≡ b ++ y → length a ≡ length b → a ≡ b
 prefix_unique_of_length a x b y same long =
@@ -111,20 +111,20 @@ pub no_id_of_other_hex : (name : List ℕ) (kind : Kind) (input line value rest 
     → len ≡ 2 * hash_len kind
     → line ≡ value ++ 10 ∷ rest → length value ≡ len
     → (IsIdHexOfKind kind value → ⊥) → BeginsWithNoIdField name kind input
-no_id_of_other_hex name kind input line value rest len joined long cut placed bad hex following has =
+no_id_of_other_hex name kind input line value rest len joined long cut len_eq bad hex following has =
     let same : hex ≡ value = prefix_unique_of_length hex (10 ∷ following) value (10 ∷ rest)
     (sym (field_line_is_value_and_rest name input line hex following joined has.0) ∙ cut)
-    (has.1.0 ∙ sym (placed ∙ long)) in
+    (has.1.0 ∙ sym (len_eq ∙ long)) in
     bad (subst (IsIdHexOfKind kind) same has.1)
 
 -- a list splits before and after the byte at a position
-pub take_cons_drop : (bytes : List ℕ) (place byte : ℕ) → place < length bytes → byte ≡ get_or bytes place 0
-    → bytes ≡ take place bytes ++ byte ∷ drop (place + 1) bytes
-take_cons_drop bytes place byte within is =
-    let next : suc place ≡ place + 1 = omega arith in
-    let following : drop place bytes ≡ byte ∷ drop (place + 1) bytes = drop-cons bytes place 0 within
-    ∙ ap (λ (it : ℕ). get_or bytes place 0 ∷ drop it bytes) next ∙ ap (λ (it : ℕ). it ∷ drop (place + 1) bytes) (sym is) in
-    sym (take-append-drop place bytes) ∙ ap (λ (it : List ℕ). take place bytes ++ it) following
+pub take_cons_drop : (bytes : List ℕ) (index byte : ℕ) → index < length bytes → byte ≡ get_or bytes index 0
+    → bytes ≡ take index bytes ++ byte ∷ drop (index + 1) bytes
+take_cons_drop bytes index byte within is =
+    let next : suc index ≡ index + 1 = omega arith in
+    let following : drop index bytes ≡ byte ∷ drop (index + 1) bytes = drop-cons bytes index 0 within
+    ∙ ap (λ (it : ℕ). get_or bytes index 0 ∷ drop it bytes) next ∙ ap (λ (it : ℕ). it ∷ drop (index + 1) bytes) (sym is) in
+    sym (take-append-drop index bytes) ∙ ap (λ (it : List ℕ). take index bytes ++ it) following
 
 -- ---- continuation lines
 

@@ -75,11 +75,11 @@ module _ (side : Level → List EntryView) where
       let out : Dirs = at_side side above in
       let below : in_path (reverse names) entire ≡ at_side side (with_inner name here above) =
       at_rebuilt names (inner name above) (with_inner name here above) are.1 in
-      let placed : at_side side (with_inner name here above) ≡ with_dir name (at_side side here) out =
+      let with_dir_is : at_side side (with_inner name here above) ≡ with_dir name (at_side side here) out =
       λ i q. at_with_inner side name here above are.0 q i in
       let step : (q : Path) → at_side side (with_inner name next above) q ≡ with_dir name (at_side side next) (in_path (reverse names) entire) q =
       λ q. at_with_inner side name next above are.0 q ∙ with_dir_twice name (at_side side next) (at_side side here) out q
-      ∙ ap (λ (d : Dirs). with_dir name (at_side side next) d q) (sym (below ∙ placed)) in
+      ∙ ap (λ (d : Dirs). with_dir name (at_side side next) d q) (sym (below ∙ with_dir_is)) in
       rebuilt_with names (inner name above) (with_inner name here above) (with_inner name next above) are.1 at
       ∙ with_path_same (reverse names) (at_side side (with_inner name next above)) (with_dir name (at_side side next) (in_path (reverse names) entire)) entire
       step at
@@ -265,8 +265,8 @@ at_path_of_descent path passed rest path_is {old} descended side =
     ap (in_path (names_of rest)) (sym (at_descent descended side)) ∙ sym (in_path_append (names_of passed) (names_of rest) (at_side side old))
     ∙ ap (λ (p : Path). in_path p (at_side side old)) (sym (names_of_parts path passed rest path_is))
 
-pub place_of_descent : (path passed rest : List BString) → path ≡ passed ++ rest → {old here above : Opened}
+pub dirs_of_descent : (path passed rest : List BString) → path ≡ passed ++ rest → {old here above : Opened}
     → IsDescended (names_of passed) old here above → dirs_of here (names_of rest) ≡ dirs_of old (names_of path)
-place_of_descent path passed rest path_is {old} {here} descended =
+dirs_of_descent path passed rest path_is {old} {here} descended =
     ap (dirs_of here) (sym (append-nil (names_of rest)))
     ∙ ap (λ (d : Dirs). d []) (at_path_of_descent path passed rest path_is descended entries_side) ∙ ap (dirs_of old) (append-nil (names_of path))

@@ -170,10 +170,10 @@ impl Open {
         ensures unchanged { IsFalse result → (self.new ≡ self.old) × (other.new ≡ other.old) }
     {
         let _ = &self.entries;
-        let Some(place) = self.children.position(name) else {
+        let Some(child_position) = self.children.position(name) else {
             return false;
         };
-        let child = self.children.at_mut(place);
+        let child = self.children.at_mut(child_position);
         let _ = base_tree(&child.open);
         let _ = base_tree(other);
         mem::swap(&mut child.open, other);

@@ -309,10 +309,10 @@ fn write_owned_found(commit: &Commit, name: &str, answer: &mut Answer) {
 }
 
 /// The columns of the first value and its position, or of missing ones.
-fn write_first(value: Option<BStr<'_>>, place: Option<usize>, answer: &mut Answer) {
+fn write_first(value: Option<BStr<'_>>, position: Option<usize>, answer: &mut Answer) {
     write_value("found", value, answer);
-    match place {
-        Some(place) => answer.write_shown("place", place),
+    match position {
+        Some(position) => answer.write_shown("place", position),
         None => answer.write_pair("place", "-"),
     }
 }

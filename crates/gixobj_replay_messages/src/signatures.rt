@@ -131,7 +131,7 @@ pub(crate) fn format_of(token: &[u8]) -> Format {
 pub(crate) fn marker_answer(question: &[u8], answer: &mut Answer) {
     let content = answer.input(question);
     match find(content.as_slice()) {
-        Some((place, format)) => answer.push_shown(format_args!("{place} {format:?}")),
+        Some((position, format)) => answer.push_shown(format_args!("{position} {format:?}")),
         None => answer.write("none"),
     }
 }

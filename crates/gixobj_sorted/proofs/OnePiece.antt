@@ -230,19 +230,19 @@ module _ {X : Type 0} (name : X → List ℕ) (is_tree : X → Bool) (x : X) (l 
       subst (λ (it : List X). P it (item_key name is_tree x)) list
       (subst (λ (u : Bool). P l (key_of (name x) u)) kind (subst (λ (m : List ℕ). P l (key_of m t)) named h))
 
-  own_place : (i : ℕ) → i ≡ prefix_len (is_before (item_key name is_tree) (key_of n t)) l
+  position_of_own_key : (i : ℕ) → i ≡ prefix_len (is_before (item_key name is_tree) (key_of n t)) l
       → i ≡ prefix_len (is_before (item_key name is_tree) (item_key name is_tree x)) xs
-  own_place i = at_own_key (λ it k. i ≡ prefix_len (is_before (item_key name is_tree) k) it)
+  position_of_own_key i = at_own_key (λ it k. i ≡ prefix_len (is_before (item_key name is_tree) k) it)
 
   module _ (i : ℕ) (up : IsAscending (item_key name is_tree) xs) (at : i ≡ prefix_len (is_before (item_key name is_tree) (key_of n t)) l) where
     pub set_of_own_found : i < length l → HoldsAt (λ y. has_key (item_key name is_tree) (key_of n t) y ≡ true) l i
         → set xs i x ≡ with_item (item_key name is_tree) x xs
     set_of_own_found low has =
-        set_of_found (item_key name is_tree) x xs i up (own_place i at) (subst (λ (it : List X). i < length it) list low)
+        set_of_found (item_key name is_tree) x xs i up (position_of_own_key i at) (subst (λ (it : List X). i < length it) list low)
         (at_own_key (λ it k. HoldsAt (λ y. has_key (item_key name is_tree) k y ≡ true) it i) has)
 
     pub insert_of_own_none : (i < length l → HoldsAt (λ y. has_key (item_key name is_tree) (key_of n t) y ≡ false) l i)
         → insert xs i x ≡ with_item (item_key name is_tree) x xs
     insert_of_own_none none =
-        insert_of_none (item_key name is_tree) x xs i up (own_place i at)
+        insert_of_none (item_key name is_tree) x xs i up (position_of_own_key i at)
         (at_own_key (λ it k. i < length it → HoldsAt (λ y. has_key (item_key name is_tree) k y ≡ false) it i) none)

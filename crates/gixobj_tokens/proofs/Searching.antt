@@ -36,15 +36,15 @@ eq_take_append_rest one prefix rest all n is as_long =
     is ∙ ap (λ (xs : List ℕ). xs ++ rest)
     (sym (ap (take n) is ∙ ap (λ m. take m ((prefix ++ one) ++ rest)) (sym as_long) ∙ take-append_seam (prefix ++ one) rest))
 
-pub offset_advances : (content rest one after : List ℕ) (place : ℕ) → place + length rest ≡ length content → content ≡ take place content ++ rest
+pub offset_advances : (content rest one after : List ℕ) (position : ℕ) → position + length rest ≡ length content → content ≡ take position content ++ rest
     → rest ≡ one ++ after
-    → content ≡ take (place + (length rest - length after)) content ++ after
-offset_advances content rest one after place placed joined is =
+    → content ≡ take (position + (length rest - length after)) content ++ after
+offset_advances content rest one after position position_is joined is =
     let longer : length rest ≡ length one + length after = ap length is ∙ length-append one after in
-    let taken : length (take place content) ≡ place = length-take place content ∙ omega arith in
-    eq_take_append_rest one (take place content) after content (place + (length rest - length after))
-    (joined ∙ ap (λ (xs : List ℕ). take place content ++ xs) is ∙ sym (append_assoc (take place content) one after))
-    (length-append (take place content) one ∙ omega arith)
+    let taken : length (take position content) ≡ position = length-take position content ∙ omega arith in
+    eq_take_append_rest one (take position content) after content (position + (length rest - length after))
+    (joined ∙ ap (λ (xs : List ℕ). take position content ++ xs) is ∙ sym (append_assoc (take position content) one after))
+    (length-append (take position content) one ∙ omega arith)
 
 -- no consumed line has the name
 module _ (kind : Kind) (name content : List ℕ) (here : State) (rest : List ℕ)

@@ -5,7 +5,7 @@ ghost use Rattle.std.specs.List.{AllZip};
 ghost use Rattle.std.proofs.lemmas.Iterator.{YieldsList};
 ghost use Rattle.bstr.specs.BStr.{bstr_bytes};
 ghost use Rattle.bstr.specs.declared.bstr.BStr.{BStr};
-ghost use Rattle.gixobj_commit.specs.ExtraHeaders.{FindsPlace, FindsValue, NextOfAll, IsFirstPlace, IsFirstValue, pair_of, searched, searched_name, values_named};
+ghost use Rattle.gixobj_commit.specs.ExtraHeaders.{FindsPosition, FindsValue, NextOfAll, IsFirstPosition, IsFirstValue, pair_of, searched, searched_name, values_named};
 ghost use Rattle.gixobj_commit.specs.RemainingHeaders.{remaining_headers, remaining_owned_headers};
 ghost use Rattle.gixobj_commit.specs.Mergetags.{NextMergetag, IsTagOf, IsTagOrNone, mergetag_kind, remaining_mergetags, tag_if_ok};
 ghost use Rattle.gixobj_commit.specs.declared.extra_headers.BorrowedHeaders.{BorrowedHeaders};
@@ -25,8 +25,8 @@ pub fn borrowed_header_search_complete()
         → FindsValue (YieldsFirstBy pair_of remaining_headers) name headers result
         → IsFirstValue name (remaining_headers headers) result }
     ensures position { (name : List ℕ) (headers : BorrowedHeaders) (result : Option ℕ)
-        → FindsPlace (YieldsFirstBy pair_of remaining_headers) name headers result
-        → IsFirstPlace name (remaining_headers headers) result }
+        → FindsPosition (YieldsFirstBy pair_of remaining_headers) name headers result
+        → IsFirstPosition name (remaining_headers headers) result }
     ensures values { (values : FindAll BorrowedHeaders)
         → YieldsList (NextOfAll (YieldsFirstBy pair_of remaining_headers)) bstr_bytes values
         (values_named (searched_name values) (remaining_headers (searched values))) }
@@ -41,8 +41,8 @@ pub fn owned_header_search_complete()
         → FindsValue (YieldsFirstBy pair_of remaining_owned_headers) name headers result
         → IsFirstValue name (remaining_owned_headers headers) result }
     ensures position { (name : List ℕ) (headers : OwnedHeaders) (result : Option ℕ)
-        → FindsPlace (YieldsFirstBy pair_of remaining_owned_headers) name headers result
-        → IsFirstPlace name (remaining_owned_headers headers) result }
+        → FindsPosition (YieldsFirstBy pair_of remaining_owned_headers) name headers result
+        → IsFirstPosition name (remaining_owned_headers headers) result }
     ensures values { (values : FindAll OwnedHeaders)
         → YieldsList (NextOfAll (YieldsFirstBy pair_of remaining_owned_headers)) bstr_bytes values
         (values_named (searched_name values) (remaining_owned_headers (searched values))) }

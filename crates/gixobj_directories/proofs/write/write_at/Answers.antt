@@ -8,7 +8,7 @@ use Rattle.gixobj_files.specs.Opening.{in_path}
 use Rattle.gixobj_directories.specs.Calls.{names_of}
 use Rattle.gixobj_open.specs.Nested.{base_side, bases_of, dirs_of, entries_side}
 use Rattle.gixobj_open.proofs.BaseSteps.{editing}
-use Rattle.gixobj_open.proofs.Descents.{ascent_unchanged, at_path_of_descent, bases_of_ascent, place_of_descent, written_of_ascent}
+use Rattle.gixobj_open.proofs.Descents.{ascent_unchanged, at_path_of_descent, bases_of_ascent, dirs_of_descent, written_of_ascent}
 use Rattle.gixobj_directories.proofs.Emitting.{emits_below_of_both, stopped_of_same_dirs}
 use Rattle.gixobj_directories.proofs.write.write_at.Goals as goal
 
@@ -62,5 +62,5 @@ returns-clause-written g c = MatchResult-weaker c.write_recursively-written.resu
 pub write_recursively-written-requires-clause-is_open : goal.write_recursively-written-requires-clause-is_open
 write_recursively-written-requires-clause-is_open g c =
     let descent = c.descend-descent.result in
-    λ none. c.requires.is_open (sym (place_of_descent c.args.path.now descent.passed.now descent.rest.now c.descend-descent.ensures.path
+    λ none. c.requires.is_open (sym (dirs_of_descent c.args.path.now descent.passed.now descent.rest.now c.descend-descent.ensures.path
     c.descend-descent.ensures.descended) ∙ none)

@@ -126,9 +126,9 @@ pub become_own-requires-clause-non_null : goal.become_own-requires-clause-non_nu
 become_own-requires-clause-non_null g c = (c.in_ok-own.ensures {u = tt}).storable.no_nulls
 
 pub become_own-requires-clause-is_at : goal.become_own-requires-clause-is_at
-become_own-requires-clause-is_at g c = λ placed.
+become_own-requires-clause-is_at g c = λ is_written.
     let node = c.args.node.now in
-    some_unique c.in_ok-own.own c.node.inside.entries (sym ((c.in_ok-own.ensures {u = tt}).is_at placed) ∙ dirs_of_nil node c.node.inside.entries
+    some_unique c.in_ok-own.own c.node.inside.entries (sym ((c.in_ok-own.ensures {u = tt}).is_at is_written) ∙ dirs_of_nil node c.node.inside.entries
     (parts (child_list c.node.inside.children)) c.node.view_is)
 
 pub take_leaf_trees-requires-clause-apart : goal.take_leaf_trees-requires-clause-apart

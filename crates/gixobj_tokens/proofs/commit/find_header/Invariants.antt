@@ -9,8 +9,8 @@ use Rattle.gixobj_tokens.proofs.commit.find_header.Given as goal
 abbrev pub invariant-lines : goal.invariant-lines
 invariant-lines l = record {
   passes : PassesNone (BeginsWithLine l.fn.hash_kind) (IsNamedLine l.fn.name) state.Tree l.fn.bytes l.state l.rest;
-  placed : l.place + length l.rest ≡ length l.fn.bytes;
-  joined : l.fn.bytes ≡ take l.place l.fn.bytes ++ l.rest;
+  position_is : l.position + length l.rest ≡ length l.fn.bytes;
+  joined : l.fn.bytes ≡ take l.position l.fn.bytes ++ l.rest;
 }
 
 abbrev pub decreases-lines : goal.decreases-lines

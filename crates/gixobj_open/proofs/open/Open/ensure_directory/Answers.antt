@@ -5,7 +5,7 @@ use Rattle.gixobj_tree.specs.WellFormed.{IsEntryName}
 use Rattle.gixobj_files.specs.Bases.{base_edited}
 use Rattle.gixobj_open.specs.Paths.{names_of}
 use Rattle.gixobj_open.proofs.BaseSteps.{editing}
-use Rattle.gixobj_open.proofs.Descents.{ascent_unchanged, bases_of_ascent, ensured_of_ascent, names_of_parts, place_of_descent}
+use Rattle.gixobj_open.proofs.Descents.{ascent_unchanged, bases_of_ascent, ensured_of_ascent, names_of_parts, dirs_of_descent}
 use Rattle.gixobj_open.proofs.NewDirectories.{all_of_rest}
 use Rattle.gixobj_open.proofs.open.Open.ensure_directory.Goals as goal
 
@@ -38,5 +38,5 @@ returns-clause-unchanged c = MatchResult-weaker c.ensure_recursively-ensured.res
 pub returns-clause-unopened : goal.returns-clause-unopened
 returns-clause-unopened c = MatchResult-weaker c.ensure_recursively-ensured.result c.ensure_recursively-ensured.ensures.unopened (λ _ u. u) (λ _ closed.
     let descent = c.descend-descent.result in
-    sym (place_of_descent c.args.path.now descent.passed.now descent.rest.now c.descend-descent.ensures.path
+    sym (dirs_of_descent c.args.path.now descent.passed.now descent.rest.now c.descend-descent.ensures.path
     c.descend-descent.ensures.descended) ∙ closed)
