@@ -20,7 +20,7 @@ use Rattle.gixobj_tag.specs.TagWriting.{encode_tag}
 use Rattle.gixobj_text.proofs.MarkerPlaces.{no_marker_and_marker_place}
 use Rattle.gixobj_text.specs.declared.signature.Format.{Format}
 use Rattle.gixobj_codec.proofs.TagsAgree.{AreAfter, IsFoundIn, after_lines, after_newline_alone, also_after, lines_joined, no_marker_in_newlines, one_signature, tag_found}
-use Rattle.gixobj_codec.proofs.TagsExtracted.{cut, has_marker_at_after_prefix, signed_tag_bytes}
+use Rattle.gixobj_codec.proofs.TagsExtracted.{prefix_of_append_eq, has_marker_at_after_prefix, signed_tag_bytes}
 use Rattle.gixobj_codec.specs.ReceivedSignatures.{HasSameLines, SignsTag}
 
 -- the signed bytes are the lines before the body, a newline and more
@@ -39,7 +39,7 @@ signed_data_begins_with_lines lines body message signature signed own format aft
     let there : HasTagSignature ((lines ++ 10 ∷ []) ++ content) signature signed format =
     subst (λ (it : List ℕ). HasTagSignature it signature signed format) (sym flat) has in
     let past : length (lines ++ 10 ∷ []) ≤ there.position = ahead there.position format there.is_marker_place.here in
-    let parts = cut (lines ++ 10 ∷ []) content signed signature there.joined (omega (arith, past, there.as_long)) in
+    let parts = prefix_of_append_eq (lines ++ 10 ∷ []) content signed signature there.joined (omega (arith, past, there.as_long)) in
     (parts.0, parts.1 ∙ append_assoc lines (10 ∷ []) parts.0)
 
 -- ---- the same lines

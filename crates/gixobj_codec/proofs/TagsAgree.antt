@@ -61,9 +61,9 @@ line_len_le_marker_place : (byte : ℕ) (line rest leading after : List ℕ) (po
 line_len_le_marker_place byte line rest leading after position format other free joined as_long begins (inl none) =
     absurd (no_marker_of_other_byte byte (line ++ 10 ∷ rest) after format other (sym (joined ∙ ap (λ (it : List ℕ). it ++ after) none)) begins)
 line_len_le_marker_place byte line rest leading after position format other free joined as_long begins (inr (lines, ends)) =
-    let cut : (byte ∷ line) ++ 10 ∷ rest ≡ lines ++ 10 ∷ after = joined ∙ ap (λ (it : List ℕ). it ++ after) ends
+    let bytes_are : (byte ∷ line) ++ 10 ∷ rest ≡ lines ++ 10 ∷ after = joined ∙ ap (λ (it : List ℕ). it ++ after) ends
     ∙ append_assoc lines (10 ∷ []) after in
-    let within : length (byte ∷ line) ≤ length lines = line_len_le_lines_len (byte ∷ line) lines rest after free cut in
+    let within : length (byte ∷ line) ≤ length lines = line_len_le_lines_len (byte ∷ line) lines rest after free bytes_are in
     let long : length leading ≡ length lines + 1 = ap length ends ∙ length-append lines (10 ∷ []) in
     let longer : length ((byte ∷ line) ++ 10 ∷ []) ≡ length (byte ∷ line) + 1 = length-append (byte ∷ line) (10 ∷ []) in
     omega (arith, within, long, longer, as_long)

@@ -11,13 +11,13 @@ use Rattle.gixobj_tag.specs.TagSigning.{payload_of_tag, signed_as}
 use Rattle.gixobj_codec.specs.OneMarker.{HasOneMarker}
 
 -- of two splits of the same bytes, the longer prefix is the shorter one and more
-pub cut : (p bytes head rest : List ℕ) → p ++ bytes ≡ head ++ rest → length p ≤ length head → (more : List ℕ) × (head ≡ p ++ more) × (bytes ≡ more ++ rest)
-cut [] bytes head rest same long = (head, refl, same)
-cut (byte ∷ p) bytes [] rest same long = absurd (omega arith)
-cut (byte ∷ p) bytes (other ∷ head) rest same long =
+pub prefix_of_append_eq : (p bytes head rest : List ℕ) → p ++ bytes ≡ head ++ rest → length p ≤ length head → (more : List ℕ) × (head ≡ p ++ more) × (bytes ≡ more ++ rest)
+prefix_of_append_eq [] bytes head rest same long = (head, refl, same)
+prefix_of_append_eq (byte ∷ p) bytes [] rest same long = absurd (omega arith)
+prefix_of_append_eq (byte ∷ p) bytes (other ∷ head) rest same long =
     let first : byte ≡ other = cc same in
     let tail : p ++ bytes ≡ head ++ rest = cc same in
-    let (more, joined, remaining) = cut p bytes head rest tail (omega arith) in
+    let (more, joined, remaining) = prefix_of_append_eq p bytes head rest tail (omega arith) in
     (more, cc (first, joined), remaining)
 
 suffix_nil_of_append_nil : (p more : List ℕ) → p ++ more ≡ [] → more ≡ []
@@ -38,7 +38,7 @@ starts_line_of_suffix p more head is (inr (lines, ends)) = starts_line_of_lines_
 pub has_marker_at_after_prefix : (p bytes : List ℕ) (position : ℕ) (format : Format) → length p ≤ position → HasMarkerAt (p ++ bytes) position format
     → HasMarkerAt bytes (position - length p) format
 has_marker_at_after_prefix p bytes position format past it =
-    let parts = cut p bytes it.prefix it.rest it.joined (omega (arith, it.as_long)) in
+    let parts = prefix_of_append_eq p bytes it.prefix it.rest it.joined (omega (arith, it.as_long)) in
     record {
       prefix = parts.0;
       rest = it.rest;

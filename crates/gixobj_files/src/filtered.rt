@@ -20,11 +20,11 @@ pub fn become_tree(tree: &mut Tree, own: &Tree)
     requires non_null { All (λ e. IsFalse (is_null e.id)) own.now }
     ensures { tree.new ≡ own.now }
 {
-    sift(&mut tree.entries, &own.entries);
+    filter_entries(&mut tree.entries, &own.entries);
 }
 
 /// Filters entries in place, so that they equal `own`.
-fn sift(entries: &mut Vec<Entry>, own: &[Entry])
+fn filter_entries(entries: &mut Vec<Entry>, own: &[Entry])
     requires apart { EachLater (λ x y. x.name ≢ y.name) entries.old.items }
     requires filtered { IsFilteredTree own.now entries.old.items }
     requires non_null { All (λ e. IsFalse (is_null e.id)) own.now }

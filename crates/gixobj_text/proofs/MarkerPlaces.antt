@@ -27,13 +27,13 @@ format_of_marker_unique bytes f g first second =
 
 take_at_marker_is_prefix : (bytes : List ℕ) (position : ℕ) (f : Format) → (here : HasMarkerAt bytes position f) → take position bytes ≡ here.prefix
 take_at_marker_is_prefix bytes position f here =
-    let cut : take (length here.prefix) bytes ≡ here.prefix = ap (take (length here.prefix)) here.joined ∙ take-append_seam here.prefix here.rest in
-    ap (λ (it : ℕ). take it bytes) (sym here.as_long) ∙ cut
+    let has_split : take (length here.prefix) bytes ≡ here.prefix = ap (take (length here.prefix)) here.joined ∙ take-append_seam here.prefix here.rest in
+    ap (λ (it : ℕ). take it bytes) (sym here.as_long) ∙ has_split
 
 drop_at_marker_is_rest : (bytes : List ℕ) (position : ℕ) (f : Format) → (here : HasMarkerAt bytes position f) → drop position bytes ≡ here.rest
 drop_at_marker_is_rest bytes position f here =
-    let cut : drop (length here.prefix) bytes ≡ here.rest = ap (drop (length here.prefix)) here.joined ∙ drop-append_seam here.prefix here.rest in
-    ap (λ (it : ℕ). drop it bytes) (sym here.as_long) ∙ cut
+    let has_split : drop (length here.prefix) bytes ≡ here.rest = ap (drop (length here.prefix)) here.joined ∙ drop-append_seam here.prefix here.rest in
+    ap (λ (it : ℕ). drop it bytes) (sym here.as_long) ∙ has_split
 
 pub begins_with_marker_at_position : (bytes : List ℕ) (position : ℕ) (f : Format) → HasMarkerAt bytes position f → BeginsWithMarker f (drop position bytes)
 begins_with_marker_at_position bytes position f here = subst (BeginsWithMarker f) (sym (drop_at_marker_is_rest bytes position f here)) here.marked

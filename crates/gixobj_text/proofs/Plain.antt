@@ -26,8 +26,8 @@ take_is_break_byte_free : (bytes : List ℕ) (position byte : ℕ) → is_in bre
     → IsByteFree byte (take position bytes)
 take_is_break_byte_free bytes position byte test within none =
     All-from_get_or (λ it. it ≢ byte) (take position bytes) 0 (λ i below same.
-    let few : i < position = omega (arith, below, length-take-le position bytes within) in
-    none i (omega arith) few (ap (is_in break_bytes) (sym (get_or-take position bytes i 0 few) ∙ same) ∙ test))
+    let bound : i < position = omega (arith, below, length-take-le position bytes within) in
+    none i (omega arith) bound (ap (is_in break_bytes) (sym (get_or-take position bytes i 0 bound) ∙ same) ∙ test))
 
 pub is_from_break_at_position : (bytes : List ℕ) (position : ℕ) → IsFirstByte (is_in break_bytes) bytes (Some position) → IsFromBreak bytes (drop position bytes)
 is_from_break_at_position bytes position (none, here) =

@@ -161,20 +161,20 @@ SaysBlock it = ((0 < it.trailers) × (it.others ≡ 0)) ⊎ (IsTrue it.recognise
 
 trailer_block_of_counts : (run : Lines) (it : Run) → Counts run it → SaysBlock it → IsTrailerBlock run
 trailer_block_of_counts run it counts (inl (some, none)) = inl (subst (λ (n : ℕ). 0 < n) counts.trailers some, sym counts.others ∙ none)
-trailer_block_of_counts run it counts (inr (is, few)) =
+trailer_block_of_counts run it counts (inr (is, bound)) =
     inr (
       sym counts.recognised ∙ is,
       subst (λ (n : ℕ). n ≤ 3 * trailer_count run) counts.others
-          (subst (λ (n : ℕ). it.others ≤ 3 * n) counts.trailers few),
+          (subst (λ (n : ℕ). it.others ≤ 3 * n) counts.trailers bound),
     )
 
 says_block_of_trailer_block : (run : Lines) (it : Run) → Counts run it → IsTrailerBlock run → SaysBlock it
 says_block_of_trailer_block run it counts (inl (some, none)) = inl (subst (λ (n : ℕ). 0 < n) (sym counts.trailers) some, counts.others ∙ none)
-says_block_of_trailer_block run it counts (inr (is, few)) =
+says_block_of_trailer_block run it counts (inr (is, bound)) =
     inr (
       counts.recognised ∙ is,
       subst (λ (n : ℕ). n ≤ 3 * it.trailers) (sym counts.others)
-          (subst (λ (n : ℕ). count_others false run ≤ 3 * n) (sym counts.trailers) few),
+          (subst (λ (n : ℕ). count_others false run ≤ 3 * n) (sym counts.trailers) bound),
     )
 
 pub is_block_start_at_run : (body : List ℕ) (it : Scan) (is : Bool) → Scanned (lines_of body) it → it.some ≡ true → (IsTrue is ↔ SaysBlock it.run) → is ≡ true

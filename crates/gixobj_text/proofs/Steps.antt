@@ -118,11 +118,11 @@ len_positive_of_ne_nil (byte ∷ content) some = omega arith
 
 rest_len_lt_of_trailers : (taken : Lines) (trailers rest : List ℕ) (n : ℕ) → 0 < n → length trailers ≤ n → trailers ≡ concat taken ++ rest
     → BeginsTrailer (taken ++ lines_of rest) → EndsTrailers (lines_of rest) → length rest < n
-rest_len_lt_of_trailers [] trailers rest n some few joined begins ends =
+rest_len_lt_of_trailers [] trailers rest n some is_short joined begins ends =
     let nothing : rest ≡ [] = sym (concat-lines_of rest) ∙ ap concat (nil_of_begins_and_ends (lines_of rest) begins ends) in
     let is : length rest ≡ 0 = ap length nothing in
     omega arith
-rest_len_lt_of_trailers (line ∷ taken) trailers rest n some few joined begins ends =
+rest_len_lt_of_trailers (line ∷ taken) trailers rest n some is_short joined begins ends =
     let one : 0 < length line = trailer_line_len_positive line begins in
     let all : length trailers ≡ length ((line ++ concat taken) ++ rest) = ap length joined in
     let sum : length ((line ++ concat taken) ++ rest) ≡ length (line ++ concat taken) + length rest = length-append (line ++ concat taken) rest in

@@ -13,7 +13,7 @@ const TREE: &[u8] =
     b"100644 test.txt\0\x83\xba\xae\x61\x80\x4e\x65\xcc\x73\xa7\x20\x1a\x72\x52\x75\x0c\x76\x06\x6a\x30";
 
 /// `TREE` without its last byte.
-const CUT: &[u8] =
+const TRUNCATED: &[u8] =
     b"100644 test.txt\0\x83\xba\xae\x61\x80\x4e\x65\xcc\x73\xa7\x20\x1a\x72\x52\x75\x0c\x76\x06\x6a";
 
 /// A blob. `HELLO_ID` is the id that `git hash-object` prints for it.
@@ -44,12 +44,12 @@ fn decoded_tree_round_trips(alloc: Global, bytes: &[u8]) -> bool {
 }
 
 #[test]
-fn copies_tree_and_rejects_cut_one(rt: HostRuntime) {
+fn copies_tree_and_rejects_truncated_one(rt: HostRuntime) {
     let alloc = rt.alloc();
     assert!(rt; is_tree(TREE, Kind::Sha1));
-    assert!(rt; !is_tree(CUT, Kind::Sha1));
+    assert!(rt; !is_tree(TRUNCATED, Kind::Sha1));
     assert!(rt; is_copy(tree_copy_of(alloc, TREE, Kind::Sha1), TREE));
-    assert!(rt; tree_copy_of(alloc, CUT, Kind::Sha1).is_err());
+    assert!(rt; tree_copy_of(alloc, TRUNCATED, Kind::Sha1).is_err());
     assert!(rt; decoded_tree_round_trips(alloc, TREE));
 }
 

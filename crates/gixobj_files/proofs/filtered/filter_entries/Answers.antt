@@ -4,7 +4,7 @@ use Rattle.std.proofs.lemmas.List.{with_items_is}
 use Rattle.gixobj_tree.specs.Entries.{EntryView}
 use Rattle.gixobj_files.specs.Editing.{non_null_entries}
 use Rattle.gixobj_files.specs.Files.{is_null}
-use Rattle.gixobj_files.proofs.filtered.sift.Goals as goal
+use Rattle.gixobj_files.proofs.filtered.filter_entries.Goals as goal
 
 pub returns : goal.returns
 returns c =
