@@ -86,9 +86,9 @@ pub also_after : (a b rest : List ℕ) → AreAfter a (b ++ rest) → AreAfter b
 also_after a b rest after_a after_b position format it =
     let flat : HasMarkerAt (a ++ (b ++ rest)) position format = subst (λ (content : List ℕ). HasMarkerAt content position format)
     (append_assoc a b rest) it in
-    let past : length a ≤ position = after_a position format flat in
-    let more : length b ≤ position - length a = after_b (position - length a) format (has_marker_at_after_prefix a (b ++ rest) position format past flat) in
-    omega (arith, past, more, length-append a b)
+    let len_le : length a ≤ position = after_a position format flat in
+    let more : length b ≤ position - length a = after_b (position - length a) format (has_marker_at_after_prefix a (b ++ rest) position format len_le flat) in
+    omega (arith, len_le, more, length-append a b)
 
 -- ---- the lines of a tag
 
@@ -189,9 +189,9 @@ module _ (lines content : List ℕ) (after : AreAfter (lines ++ 10 ∷ []) conte
   last_after position format is = record {
     here = marks_after position format is.here;
     last = λ other f it.
-        let past = after other f it in
+        let len_le = after other f it in
         let low = is.last (other - length leading) f (marks_bytes other f it) in
-        omega (arith, past, low);
+        omega (arith, len_le, low);
   }
 
   parted_found : (message : List ℕ) (signature : Option (List ℕ)) → IsParted content message signature → IsFoundIn (leading ++ content) signature
@@ -248,16 +248,16 @@ found_signatures_are_the_same : (content : List ℕ) (signature : Option (List �
     → IsFoundIn content signature
     → IsSignature signature own
     → IfSome found (FindsSignatureOfTag content) → IfNone found (HasNoMarker content) → AreTheSame own found
-found_signatures_are_the_same content None None None is own passed none = tt
-found_signatures_are_the_same content None None (Some found) is own passed none =
-    absurd (no_marker_and_marker_place content passed.position found.0.format passed.is_marker_place is)
-found_signatures_are_the_same content None (Some it) found is own passed none = absurd own
-found_signatures_are_the_same content (Some bytes) None found (before, format, has) own passed none =
+found_signatures_are_the_same content None None None is own has_own none = tt
+found_signatures_are_the_same content None None (Some found) is own has_own none =
+    absurd (no_marker_and_marker_place content has_own.position found.0.format has_own.is_marker_place is)
+found_signatures_are_the_same content None (Some it) found is own has_own none = absurd own
+found_signatures_are_the_same content (Some bytes) None found (before, format, has) own has_own none =
     absurd (own format (signature_begins_with_marker content bytes before format has))
-found_signatures_are_the_same content (Some bytes) (Some it) None (before, format, has) own passed none =
+found_signatures_are_the_same content (Some bytes) (Some it) None (before, format, has) own has_own none =
     absurd (no_marker_and_marker_place content has.position format has.is_marker_place none)
-found_signatures_are_the_same content (Some bytes) (Some it) (Some found) (before, format, has) own passed none =
-    let one = one_signature content (bstr_bytes found.0.bytes) bytes (signed_bytes found.1) before found.0.format format passed has in
+found_signatures_are_the_same content (Some bytes) (Some it) (Some found) (before, format, has) own has_own none =
+    let one = one_signature content (bstr_bytes found.0.bytes) bytes (signed_bytes found.1) before found.0.format format has_own has in
     (one.0 ∙ sym own.0, one.1 ∙ format_of_marker_unique bytes format it.format (signature_begins_with_marker content bytes before format has) own.1)
 
 pub tag_signatures_are_same : (kind : Kind) (content : List ℕ) (tag : TagLines) (own : Option SignatureRef) (found : Option (SignatureRef × SignedData))

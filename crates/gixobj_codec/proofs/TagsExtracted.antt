@@ -37,7 +37,7 @@ starts_line_of_suffix p more head is (inr (lines, ends)) = starts_line_of_lines_
 -- a marker after a prefix marks a position of the rest
 pub has_marker_at_after_prefix : (p bytes : List ℕ) (position : ℕ) (format : Format) → length p ≤ position → HasMarkerAt (p ++ bytes) position format
     → HasMarkerAt bytes (position - length p) format
-has_marker_at_after_prefix p bytes position format past it =
+has_marker_at_after_prefix p bytes position format len_le it =
     let parts = prefix_of_append_eq p bytes it.prefix it.rest it.joined (omega (arith, it.as_long)) in
     record {
       prefix = parts.0;
@@ -76,9 +76,9 @@ marker_place_eq_payload_len unsigned bytes position format own begins one is =
       starts = inr (unsigned, refl);
       marked = begins;
     } in
-    let past : length (unsigned ++ 10 ∷ []) ≤ position = is.last (length (unsigned ++ 10 ∷ [])) own here in
-    let none : position - length (unsigned ++ 10 ∷ []) ≡ 0 = one _ format (has_marker_at_after_prefix (unsigned ++ 10 ∷ []) bytes position format past is.here) in
-    omega (arith, past, none)
+    let len_le : length (unsigned ++ 10 ∷ []) ≤ position = is.last (length (unsigned ++ 10 ∷ [])) own here in
+    let none : position - length (unsigned ++ 10 ∷ []) ≡ 0 = one _ format (has_marker_at_after_prefix (unsigned ++ 10 ∷ []) bytes position format len_le is.here) in
+    omega (arith, len_le, none)
 
 -- the payload and the signature that are found are the tag's and the signer's
 pub signed_data_is_payload_of_tag : (tag : TagLines) (bytes signature signed : List ℕ) (format : Format) → HasOneMarker bytes

@@ -139,12 +139,12 @@ module _ (f : Frame) (e : EntryView) (low : f.next < length (held_entries f.tree
     ahead = subst (Ahead f.node.now (drop (f.next + 1) (held_entries f.tree))) (sym following) (stepped_of_frame so).ahead;
   }
 
-  pub has_come_passed : AreNonEmpty (λ (p : Vec Child Global). p.items) r.more.now → (o : WrittenTree) (inner : List Pair) (kept : List EntryView) (k : ℕ)
+  pub has_come_visited : AreNonEmpty (λ (p : Vec Child Global). p.items) r.more.now → (o : WrittenTree) (inner : List Pair) (kept : List EntryView) (k : ℕ)
       → EmitsEntry (child_side entries_side next) (child_side base_side next) e inner kept k → so_far f.base.now o ≡ own_entries f ++ kept
       → SharesBase f.base.now o → (ps : List Pair) (ts : List (List EntryView)) (count : ℕ) → HasCome f ps ts count
       → HasCome (record { node = f.node; base = f.base; tree = f.tree; next = f.next + 1; remaining = r; own = o }) (ps ++ inner)
       (ts ++ child_leaf_trees next) (count + k)
-  has_come_passed filled o inner kept k emits own shares ps ts count come = record {
+  has_come_visited filled o inner kept k emits own shares ps ts count come = record {
     in_step = in_step_after come.in_step filled (f.next + 1) o shares;
     walked = walk_step (dirs_of f.node.now) (bases_of f.node.now) (child_side entries_side next) (child_side base_side next) (held_entries f.tree) f.next e
         ps inner (own_entries f) kept count k low is (dirs_of_entry come.in_step) (bases_of_entry come.in_step) emits come.walked (so_far f.base.now o) own;
@@ -182,9 +182,9 @@ module _ (f : Frame) (e : EntryView) (low : f.next < length (held_entries f.tree
         ),
       )
 
-  pub lighter_passed : (o : WrittenTree)
+  pub lighter_visited : (o : WrittenTree)
       → frame_weight (record { node = f.node; base = f.base; tree = f.tree; next = f.next + 1; remaining = r; own = o }) + 1 ≤ frame_weight f
-  lighter_passed o = omega (arith, weight_of_entry)
+  lighter_visited o = omega (arith, weight_of_entry)
 
   pub lighter_begun : (node : Opened) → IsBegun next node
       → frame_weight (record { node = f.node; base = f.base; tree = f.tree; next = f.next; remaining = r; own = f.own }) + weight_of node ≤ frame_weight f

@@ -304,9 +304,9 @@ if_err_weaken (Ok x) P Q h f = absurd h
 if_err_weaken (Err error) P Q h f = f error h
 
 -- what is open in a child
-pub side_of_open_child : (side : Level → List EntryView) (passed : Option (Bor Child)) (child : Bor Child) → passed ≡ Some child
-    → at_side side child.now.open ≡ child_side side (option_copied passed)
-side_of_open_child side passed child is = sym (ap (λ (o : Option (Bor Child)). child_side side (option_copied o)) is)
+pub side_of_open_child : (side : Level → List EntryView) (child_if_any : Option (Bor Child)) (child : Bor Child) → child_if_any ≡ Some child
+    → at_side side child.now.open ≡ child_side side (option_copied child_if_any)
+side_of_open_child side child_if_any child is = sym (ap (λ (o : Option (Bor Child)). child_side side (option_copied o)) is)
 
 -- a walk with one entry more
 module _ (dirs bases inside based : Dirs) (items : List EntryView) (i : ℕ) (e : EntryView) (ps inner : List Pair) (acc kept : List EntryView)

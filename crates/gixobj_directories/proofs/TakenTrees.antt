@@ -76,10 +76,10 @@ remaining_nil node rest (c ∷ cs) none ahead = let there : has_tree (bstring_by
     subst (λ es. has_tree (bstring_bytes c.name) es ≡ true) none ahead.above.0 in absurd (true≢false (sym there))
 
 -- a child adds what is open in it
-pub adds_leaf_trees_of_child : (passed : Option (Bor Child)) (child : Bor Child) → passed ≡ Some child → (ts : List (List EntryView))
+pub adds_leaf_trees_of_child : (child_if_any : Option (Bor Child)) (child : Bor Child) → child_if_any ≡ Some child → (ts : List (List EntryView))
     → leaf_trees child.now.open ≡ ts
-    → (a b ps : List Pair) → Adds a b ts ps → Adds a b (child_leaf_trees (option_copied passed)) ps
-adds_leaf_trees_of_child passed child is ts same a b ps adds =
+    → (a b ps : List Pair) → Adds a b ts ps → Adds a b (child_leaf_trees (option_copied child_if_any)) ps
+adds_leaf_trees_of_child child_if_any child is ts same a b ps adds =
     subst (λ us. Adds a b us ps) (sym (ap (λ (o : Option (Bor Child)). child_leaf_trees (option_copied o)) is ∙ same)) adds
 
 -- a directory whose tree is emitted as a leaf tree

@@ -126,8 +126,8 @@ module _ {F : Type 0} {gave : F → Pair → F → Type 0} {root : Opened} {old 
     calls_more = subst (λ x. FoldsTo gave old x new) (append_assoc so.before so.qs more)
         (folds_to_append gave old (so.before ++ so.qs) mid more new so.called calls)
 
-    pub under_way_passed : HasStepped step.Passed f g more further → IsUnderWay gave root old new had has' was is fs g
-    under_way_passed stepped = record {
+    pub under_way_visited : HasStepped step.Visited f g more further → IsUnderWay gave root old new had has' was is fs g
+    under_way_visited stepped = record {
       before = so.before;
       qs = so.qs ++ more;
       first = so.first;
@@ -142,7 +142,7 @@ module _ {F : Type 0} {gave : F → Pair → F → Type 0} {root : Opened} {old 
     }
 
     pub under_way_ended : HasStepped step.Ends f g more further → IsUnderWay gave root old new had has' was is fs g
-    under_way_ended stepped = under_way_passed (λ ps ts count come. (stepped ps ts count come).0)
+    under_way_ended stepped = under_way_visited (λ ps ts count come. (stepped ps ts count come).0)
 
     pub under_way_begun : (inner : Bor Opened) → HasStepped (step.Begins inner) f g more further → (h : Frame) → h.node.now ≡ inner.now → HasCome h [] [] 0
         → IsUnderWay gave root old new had has' was is (g ∷ fs) h

@@ -21,8 +21,8 @@ use Rattle.gixobj_directories.specs.declared.frames.Frame.{Frame}
 use Rattle.gixobj_directories.specs.declared.frames.HeldTree.{HeldTree}
 use Rattle.gixobj_directories.specs.declared.frames.HeldTree.TheVariants as held
 use Rattle.gixobj_open.specs.declared.open.Child.{Child}
-use Rattle.gixobj_directories.specs.declared.walk.Passing.{Passing}
-use Rattle.gixobj_directories.specs.declared.walk.Passing.TheVariants as passing
+use Rattle.gixobj_directories.specs.declared.walk.Visit.{Visit}
+use Rattle.gixobj_directories.specs.declared.walk.Visit.TheVariants as visit
 use Rattle.gixobj_directories.specs.declared.walk.Step.{Step}
 use Rattle.gixobj_directories.specs.declared.walk.Step.TheVariants as step
 
@@ -89,7 +89,7 @@ pub record Waits (f : Frame) (inner : Opened) (ps : List Pair) (ts : List (List 
 
 -- a step, from this frame to this one, with these pairs and leaf trees
 abbrev pub HasStepped : Step → Frame → Frame → List Pair → List (List EntryView) → Type 0
-HasStepped step.Passed old new qs us = (ps : List Pair) (ts : List (List EntryView)) (count : ℕ)
+HasStepped step.Visited old new qs us = (ps : List Pair) (ts : List (List EntryView)) (count : ℕ)
     → HasCome old ps ts count → HasCome new (ps ++ qs) (ts ++ us) count
 HasStepped (step.Begins inner) old new qs us = (ps : List Pair) (ts : List (List EntryView)) (count : ℕ)
     → HasCome old ps ts count → Waits new inner.now (ps ++ qs) (ts ++ us) count
@@ -120,15 +120,15 @@ pub record IsBegun (child : Option Child) (node : Opened) : Type 0 where
   pub root : HasRoot node
 
 -- an entry with this child emits these pairs and gets an id, or the child has to be written first
-abbrev pub IsPassed : Passing → Option Child → EntryView → List Pair → Type 0
-IsPassed (passing.Id id) child e inner =
+abbrev pub IsVisited : Visit → Option Child → EntryView → List Pair → Type 0
+IsVisited (visit.Id id) child e inner =
     EmitsEntry (child_side entries_side child) (child_side base_side child) e inner (entry_unless_null e id) 0
-IsPassed (passing.Begins node) child e inner = IsBegun child node.now × (inner ≡ [])
+IsVisited (visit.Begins node) child e inner = IsBegun child node.now × (inner ≡ [])
 
 -- the leaf trees of a child that was passed, or none
-abbrev pub passed_leaf_trees : Passing → Option Child → List (List EntryView)
-passed_leaf_trees (passing.Id id) child = child_leaf_trees child
-passed_leaf_trees (passing.Begins node) child = []
+abbrev pub visited_leaf_trees : Visit → Option Child → List (List EntryView)
+visited_leaf_trees (visit.Id id) child = child_leaf_trees child
+visited_leaf_trees (visit.Begins node) child = []
 
 -- after its own pairs a directory of this base and written tree emits these pairs, and its entry becomes these entries
 abbrev pub EmitsOwn : List EntryView → EntryView → List EntryView → List Pair → List EntryView → ℕ → Type 0
@@ -154,6 +154,6 @@ frame_weight f = length (remaining_entries f) + weight_of (below (parts (remaini
 
 -- the weight of what a directory has that has to be begun
 abbrev pub begun_weight : Step → ℕ
-begun_weight step.Passed = 1
+begun_weight step.Visited = 1
 begun_weight (step.Begins inner) = weight_of inner.now
 begun_weight step.Ends = 0

@@ -9,7 +9,7 @@ ghost use Rattle.gixobj_files.specs.Edits.{raised};
 ghost use Rattle.gixobj_files.specs.Emission.{EmitsBelow};
 ghost use Rattle.gixobj_files.specs.WrittenTrees.{SharesBase, so_far};
 ghost use Rattle.gixobj_directories.specs.Calls.{IsCallableOnTrees, IsStorable, answered, denied};
-ghost use Rattle.gixobj_directories.specs.Frames.{EmitsAfter, EmitsNext, EmitsOwn, HasCome, HasResumed, HasStepped, IsInStep, IsPassed, Waits, begun_weight, frame_weight, passed_leaf_trees, remaining_entries};
+ghost use Rattle.gixobj_directories.specs.Frames.{EmitsAfter, EmitsNext, EmitsOwn, HasCome, HasResumed, HasStepped, IsInStep, IsVisited, Waits, begun_weight, frame_weight, visited_leaf_trees, remaining_entries};
 ghost use Rattle.gixobj_directories.specs.TakenTrees.{Adds};
 ghost use Rattle.gixobj_open.specs.LeafTrees.{inside_of, leaf_trees};
 ghost use Rattle.gixobj_open.specs.Nested.{base_side, bases_of, dirs_of, entries_side};
@@ -29,7 +29,7 @@ use std::mem;
 #[derive(Drop)]
 pub(crate) enum Step<'a> {
     /// It consumed an entry.
-    Passed,
+    Visited,
     /// The directory of the next entry has to be written first.
     Begins(&'a Open),
     /// No entry remains.
@@ -38,7 +38,7 @@ pub(crate) enum Step<'a> {
 
 /// What has to be done for an entry.
 #[derive(Drop)]
-pub(crate) enum Passing<'a> {
+pub(crate) enum Visit<'a> {
     /// The entry gets this id.
     Id(ObjectId),
     /// Its directory has to be written first.
@@ -69,7 +69,7 @@ pub(crate) fn emit_below<E, F: FnMut(&Tree) -> Result<ObjectId, E>>(
     let mut frame = begin(alloc, node)?;
     'frames: loop {
         match advance(alloc, &mut frame, out, pairs)? {
-            Step::Passed => {}
+            Step::Visited => {}
             Step::Begins(inner) => {
                 let begun = begin(alloc, inner)?;
                 wait(&mut above, &mut frame, begun)?;
@@ -128,27 +128,27 @@ fn advance<'a, E, F: FnMut(&Tree) -> Result<ObjectId, E>>(
     let entry = &entries[frame.next];
     let (child, remaining) = frame.remaining.next_of(entry);
     frame.remaining = remaining;
-    let id = match pass(alloc, entry, child, out, pairs)? {
-        Passing::Begins(inner) => return Ok(Step::Begins(inner)),
-        Passing::Id(id) => Some(id),
+    let id = match visit_entry(alloc, entry, child, out, pairs)? {
+        Visit::Begins(inner) => return Ok(Step::Begins(inner)),
+        Visit::Id(id) => Some(id),
     };
     append_unless_null(alloc, &mut frame.own, frame.base, entry, id, entries.len())?;
     frame.next += 1;
-    Ok(Step::Passed)
+    Ok(Step::Visited)
 }
 
 /// Returns the id that an entry gets, unless its directory has to be written first. A leaf tree is emitted.
-fn pass<'a, E, F: FnMut(&Tree) -> Result<ObjectId, E>>(
+fn visit_entry<'a, E, F: FnMut(&Tree) -> Result<ObjectId, E>>(
     alloc: Global,
     entry: &Entry,
     child: Option<&'a Child>,
     out: &mut F,
     pairs: &mut Vec<(ObjectId, Tree)>,
-) -> Result<Passing<'a>, WriteError<E>>
+) -> Result<Visit<'a>, WriteError<E>>
     requires callable { IsCallableOnTrees F.pre (answered F.FnMut) out.old }
     ensures emitted { IfOk result (λ it. (inner : List Pair)
-        × IsPassed it (option_copied child.entry) entry.now inner
-        × Adds pairs.old.items pairs.new.items (passed_leaf_trees it (option_copied child.entry)) inner
+        × IsVisited it (option_copied child.entry) entry.now inner
+        × Adds pairs.old.items pairs.new.items (visited_leaf_trees it (option_copied child.entry)) inner
         × FoldsTo (answered F.FnMut) out.old inner out.new) }
     ensures error { IfErr result (IsWriteError (answered F.FnMut) (denied F.FnMut)
         (λ inner. (kept : List EntryView) × (count : ℕ)
@@ -157,15 +157,15 @@ fn pass<'a, E, F: FnMut(&Tree) -> Result<ObjectId, E>>(
         out.new) }
 {
     let Some(child) = child else {
-        return Ok(Passing::Id(entry.oid));
+        return Ok(Visit::Id(entry.oid));
     };
     let mut slot = Tree::empty(alloc);
     let leaf = child.open.leaf_tree(alloc, &mut slot)?;
     if let Some(tree) = leaf {
-        let passed = emit_leaf_tree(alloc, tree, out, pairs)?;
-        return Ok(Passing::Id(passed));
+        let emitted_id = emit_leaf_tree(alloc, tree, out, pairs)?;
+        return Ok(Visit::Id(emitted_id));
     }
-    Ok(Passing::Begins(&child.open))
+    Ok(Visit::Begins(&child.open))
 }
 
 /// Emits the written tree of a directory that has ended, and goes to the next entry of the directory above.

@@ -53,10 +53,10 @@ flat_map_take_is_prefix f (suc k) (x ∷ xs) = let more =
 pub agrees_with_run_prefix : {E : Type 0} (T : Table) (objects : Objects) (k : ℕ) (replies : List (Reply E)) → AgreesWithRun T objects replies
     → AgreesWithRun T objects (take k replies)
 agrees_with_run_prefix T objects k replies agrees =
-    let passed = flat_map_take_is_prefix pairs_of k replies in
+    let is_prefix = flat_map_take_is_prefix pairs_of k replies in
     let kept = flat_map_take_is_prefix kept_of k replies in
     record {
-      writes = agrees_with_prefix T (emitted_pairs (take k replies)) passed.0 (subst (λ (ps : List Pair). AgreesWithPairs T ps) passed.1 agrees.writes);
+      writes = agrees_with_prefix T (emitted_pairs (take k replies)) is_prefix.0 (subst (λ (ps : List Pair). AgreesWithPairs T ps) is_prefix.1 agrees.writes);
       stores = agrees_throughout_prefix T (kept_pairs (take k replies)) kept.0 objects
           (subst (λ (ps : List Pair). AgreesThroughout T ps objects) kept.1 agrees.stores);
     }

@@ -155,13 +155,13 @@ module _ (T : Table) (pairs : List Pair) (known : AgreesWithPairs T pairs) where
   goes_out [] within storable = tt
   goes_out (pair ∷ ps) within storable = ((within.0, is_clean_of_is_storable pair.1 storable.0), goes_out ps within.1 storable.1)
 
-  went : {S : Type 0} (old new : State S) (prefix : Path) (below : List Pair) (id : ObjectId) (own : List EntryView) (saved : ℕ) → IsPlainState old
+  is_plain_after_write : {S : Type 0} (old new : State S) (prefix : Path) (below : List Pair) (id : ObjectId) (own : List EntryView) (saved : ℕ) → IsPlainState old
       → EmitsBelow (in_path prefix (open_dirs old)) (in_path prefix (open_bases old)) below own saved
       → Within (below ++ (id, own) ∷ []) → AllByRecursion (λ pair. IsStorable pair.1) (below ++ (id, own) ∷ [])
       → ((at : Path) → open_dirs new at ≡ with_path prefix (only_open own) (open_dirs old) at)
       → ((at : Path) → open_bases new at ≡ edited_bases (open_dirs old) (open_dirs new) (open_bases old) at)
       → Everywhere (Plain pairs) (open_dirs new) (open_bases new) × AreBuilt (below ++ (id, own) ∷ [])
-  went old new prefix below id own saved holds going within storable dirs_are bases_are =
+  is_plain_after_write old new prefix below id own saved holds going within storable dirs_are bases_are =
       let out = goes_out (below ++ (id, own) ∷ []) within storable in
       let mine = all_right (IsEmitted pairs) below ((id, own) ∷ []) out in
       let it = emits_below_plain pairs (in_path prefix (open_dirs old)) (in_path prefix (open_bases old)) below own saved going
@@ -181,7 +181,7 @@ module _ (T : Table) (pairs : List Pair) (known : AgreesWithPairs T pairs) where
   plain_below gave queries answered old new prefix it holds h within =
       let out = h.emitted in
       let own : h.own ≡ out.2 = last_tree_unique h.below (out.0) it.id (out.1) h.own (out.2) (sym h.last ∙ out.4) in
-      let remaining = went old new prefix out.0 out.1 out.2 out.3.0 holds out.3.1 (subst Within out.4 within)
+      let remaining = is_plain_after_write old new prefix out.0 out.1 out.2 out.3.0 holds out.3.1 (subst Within out.4 within)
       (subst (λ (l : List Pair). AllByRecursion (λ pair. IsStorable pair.1) l) out.4
       (recursion_from_All (λ (pair : Pair). IsStorable pair.1) it.trees.items h.storable))
       (subst (λ (l : List EntryView). (at : Path) → open_dirs new at ≡ with_path prefix (only_open l) (open_dirs old) at) own h.dirs) h.bases in
@@ -196,7 +196,7 @@ module _ (T : Table) (pairs : List Pair) (known : AgreesWithPairs T pairs) where
       (recursion_from_All (λ (pair : Pair). IsStorable pair.1) it.trees.items h.storable) in
       let alone : (at : Path) → open_dirs new at ≡ only_open out.2 at = λ at. ap (λ (m : DirMap). map.get m at) h.dirs ∙ root_alone_get h.own at
       ∙ ap (λ (l : List EntryView). only_open l at) own in
-      let remaining = went old new [] out.0 out.1 out.2 out.3.0 holds out.3.1 (subst Within out.4 within) storable alone h.bases in (
+      let remaining = is_plain_after_write old new [] out.0 out.1 out.2 out.3.0 holds out.3.1 (subst Within out.4 within) storable alone h.bases in (
         (
           subst (λ (d : Dirs). IsOpened d) (sym (λ i at. alone at i))
               (is_opened_of_only out.2 (all_right (λ (pair : Pair). IsStorable pair.1) out.0 ((out.1, out.2) ∷ []) storable).0.well_formed),

@@ -53,12 +53,12 @@ is_opened_after_write prefix own ds ds' all there storable remaining = subst (λ
     (is_opened_with_only prefix own (dirs_of ds) all there storable.well_formed)
 
 module _ {S F : Type 0} (store : S) (hash : Kind) (prefix : Path) (gave : F → Pair → F → Type 0) where
-  went_out : (ds ds' : Opened) (n : ℕ) → OpenedOn ds → dirs_of ds prefix ≢ None → (it : Written) (below : List Pair) (own : List EntryView)
+  emits_written : (ds ds' : Opened) (n : ℕ) → OpenedOn ds → dirs_of ds prefix ≢ None → (it : Written) (below : List Pair) (own : List EntryView)
       (requested answered : F) → Saves (in_path prefix (dirs_of ds)) (in_path prefix (bases_of ds)) below own it.saved
       → it.trees.items ≡ below ++ (it.id, own) ∷ [] → FoldsTo gave requested (below ++ (it.id, own) ∷ []) answered → IsStorable own
       → ((at : Path) → dirs_of ds' at ≡ with_path prefix (only_open own) (dirs_of ds) at) → EditedSo ds ds'
       → IsWrittenBelow gave requested (state_of store hash prefix ds n) prefix it (state_of store hash prefix ds' n) answered
-  went_out ds ds' n was there it below own requested answered going is called storable remaining edited =
+  emits_written ds ds' n was there it below own requested answered going is called storable remaining edited =
       let old_is = map_dirs_eq ds in
       let open_there : map_dirs ds prefix ≢ None = subst (λ (d : Dirs). d prefix ≢ None) (sym old_is) there in
       let on = map_is_opened_on ds was in
@@ -99,4 +99,4 @@ module _ {S F : Type 0} (store : S) (hash : Kind) (prefix : Path) (gave : F → 
       (state_of store hash prefix ds' n) answered
   written_at ds ds' n old view was there it below own requested answered going is called storable remaining edited =
       subst (λ (o : State S). IsWrittenBelow gave requested o o.prefix it (state_of store hash prefix ds' n) answered) view
-      (went_out ds ds' n was there it below own requested answered going is called storable remaining edited)
+      (emits_written ds ds' n was there it below own requested answered going is called storable remaining edited)

@@ -31,11 +31,11 @@ all_storable_snoc [] pair h k = (k, tt)
 all_storable_snoc (first ∷ head) pair h k = (h.0, all_storable_snoc head pair h.1 k)
 
 module _ {S F : Type 0} (store : S) (hash : Kind) (prefix : Path) (gave : F → Pair → F → Type 0) where
-  went_out : (ds : Opened) (n : ℕ) → OpenedOn ds → (it : Written) (below : List Pair) (own base : List EntryView) (requested answered : F)
+  emits_written : (ds : Opened) (n : ℕ) → OpenedOn ds → (it : Written) (below : List Pair) (own base : List EntryView) (requested answered : F)
       → Saves (dirs_of ds) (bases_of ds) below own it.saved → it.trees.items ≡ below ++ (it.id, own) ∷ []
       → FoldsTo gave requested (below ++ (it.id, own) ∷ []) answered → IsStorable own → EditedSo ds (opened own base [])
       → IsWrittenEditor gave requested (state_of store hash prefix ds n) it (state_of store hash prefix (opened own base []) n) answered
-  went_out ds n was it below own base requested answered going is called storable remaining =
+  emits_written ds n was it below own base requested answered going is called storable remaining =
       let there : EmitsBelow (map_dirs ds) (map_bases ds) below own going.0 = subst (λ (b : Dirs). EmitsBelow (map_dirs ds) b below own going.0)
       (sym (map_bases_eq ds)) (subst (λ (d : Dirs). EmitsBelow d (bases_of ds) below own going.0) (sym (map_dirs_eq ds)) going.1) in
       let on = map_is_opened_on ds was in
@@ -76,4 +76,4 @@ module _ {S F : Type 0} (store : S) (hash : Kind) (prefix : Path) (gave : F → 
   written_at ds ds' n old view was it below own base requested answered going is called storable remaining edited =
       subst (λ (o : State S). IsWrittenEditor gave requested o it (state_of store hash prefix ds' n) answered) view
       (subst (λ (d : Opened). IsWrittenEditor gave requested (state_of store hash prefix ds n) it (state_of store hash prefix d n) answered) (sym remaining)
-      (went_out ds n was it below own base requested answered going is called storable (subst (λ (d : Opened). EditedSo ds d) remaining edited)))
+      (emits_written ds n was it below own base requested answered going is called storable (subst (λ (d : Opened). EditedSo ds d) remaining edited)))

@@ -43,14 +43,14 @@ list_error_of_answer arguments rest rest' may_fail out out' BadTree hash input r
 
 -- an output is unchanged by a fact that follows from one by which it is unchanged
 has_written_nothing_weaken : {A B : Type 0} → (A → B) → (cause : Failure) → HasWrittenNothing A cause → HasWrittenNothing B cause
-has_written_nothing_weaken passed Usage remaining = passed remaining
-has_written_nothing_weaken passed InputFailed remaining = passed remaining
-has_written_nothing_weaken passed OutputFailed remaining = remaining
-has_written_nothing_weaken passed OutOfMemory remaining = passed remaining
-has_written_nothing_weaken passed BadHeader remaining = passed remaining
-has_written_nothing_weaken passed ShortData remaining = passed remaining
-has_written_nothing_weaken passed NotATree remaining = passed remaining
-has_written_nothing_weaken passed BadTree remaining = passed remaining
+has_written_nothing_weaken implies Usage remaining = implies remaining
+has_written_nothing_weaken implies InputFailed remaining = implies remaining
+has_written_nothing_weaken implies OutputFailed remaining = remaining
+has_written_nothing_weaken implies OutOfMemory remaining = implies remaining
+has_written_nothing_weaken implies BadHeader remaining = implies remaining
+has_written_nothing_weaken implies ShortData remaining = implies remaining
+has_written_nothing_weaken implies NotATree remaining = implies remaining
+has_written_nothing_weaken implies BadTree remaining = implies remaining
 
 -- a failed list over streams is a failed list over equal streams
 pub is_unlisted_of_error : {A B may_fail : Type 0} (arguments : List (List ℕ)) (rest read read' : Option (List ℕ))
@@ -58,5 +58,5 @@ pub is_unlisted_of_error : {A B may_fail : Type 0} (arguments : List (List ℕ))
     (status : ℕ)
     → read ≡ read' → out' ≡ out'' → errors' ≡ errors'' → (A → B)
     → IsUnlisted arguments rest read may_fail out out' errors errors' A status → IsUnlisted arguments rest read' may_fail out out'' errors errors'' B status
-is_unlisted_of_error arguments rest read read' out out' out'' errors errors' errors'' status same-read same-out same-errors passed it =
-    (it.0, it.1, rw (← same-read, ← same-out) it.2, rw (← same-errors) it.3, has_written_nothing_weaken passed it.0 it.4)
+is_unlisted_of_error arguments rest read read' out out' out'' errors errors' errors'' status same-read same-out same-errors implies it =
+    (it.0, it.1, rw (← same-read, ← same-out) it.2, rw (← same-errors) it.3, has_written_nothing_weaken implies it.0 it.4)

@@ -29,13 +29,13 @@ no_key_token_of_other_byte byte rest other =
     ap (λ (t : Bool). cond (t && pointwise nat_eq (codes "key ") (take 4 rest)) (Some (drop 4 rest)) None)
     (false_of_not_true (nat_eq space byte) (λ yes. other (sym (eqb-true space byte yes))))
 
-no_key_token_of_space_free_append : (free passed : List ℕ) → IsByteFree space free → after_last key_token passed ≡ None
-    → after_last key_token (free ++ passed) ≡ None
-no_key_token_of_space_free_append [] passed all none = none
-no_key_token_of_space_free_append (byte ∷ free) passed all none =
-    ap (λ it. either it (after_prefix key_token (byte ∷ free ++ passed)))
-    (no_key_token_of_space_free_append free passed (All-tail (λ it. it ≢ space) byte free all) none)
-    ∙ no_key_token_of_other_byte byte (free ++ passed) (All-head (λ it. it ≢ space) byte free all)
+no_key_token_of_space_free_append : (free following : List ℕ) → IsByteFree space free → after_last key_token following ≡ None
+    → after_last key_token (free ++ following) ≡ None
+no_key_token_of_space_free_append [] following all none = none
+no_key_token_of_space_free_append (byte ∷ free) following all none =
+    ap (λ it. either it (after_prefix key_token (byte ∷ free ++ following)))
+    (no_key_token_of_space_free_append free following (All-tail (λ it. it ≢ space) byte free all) none)
+    ∙ no_key_token_of_other_byte byte (free ++ following) (All-head (λ it. it ≢ space) byte free all)
 
 drop_len_append : (prefix back : List ℕ) → drop (length prefix) (prefix ++ back) ≡ back
 drop_len_append [] back = refl

@@ -53,9 +53,9 @@ pub fn owned_header_search_complete()
 /// A run to the end yields, for each value, its tag or `Malformed`. Given for each value its tag, or that it
 /// is malformed, every run yields these tags, and an error for each malformed value.
 pub fn borrowed_mergetag_search_complete()
-    ensures yielded { (tags after : Mergetags BorrowedHeaders) (passed : List (Result TagRef Error))
-        → YieldsThen (NextMergetag (YieldsFirstBy pair_of remaining_headers)) tags passed None after
-        → AllZip (IsTagOf (mergetag_kind tags)) (remaining_mergetags remaining_headers tags) passed }
+    ensures yielded { (tags after : Mergetags BorrowedHeaders) (consumed : List (Result TagRef Error))
+        → YieldsThen (NextMergetag (YieldsFirstBy pair_of remaining_headers)) tags consumed None after
+        → AllZip (IsTagOf (mergetag_kind tags)) (remaining_mergetags remaining_headers tags) consumed }
     ensures tags { (tags : Mergetags BorrowedHeaders) (read : List (Option TagLines))
         → AllZip (IsTagOrNone (mergetag_kind tags)) (remaining_mergetags remaining_headers tags) read
         → YieldsList (NextMergetag (YieldsFirstBy pair_of remaining_headers)) tag_if_ok tags read }
@@ -66,10 +66,10 @@ pub fn borrowed_mergetag_search_complete()
 /// A run to the end yields, for each value, its tag or `Malformed`. Given for each value its tag, or that it
 /// is malformed, every run yields these tags, and an error for each malformed value.
 pub fn owned_mergetag_search_complete()
-    ensures yielded { (tags after : Mergetags OwnedHeaders) (passed : List (Result TagRef Error))
-        → YieldsThen (NextMergetag (YieldsFirstBy pair_of remaining_owned_headers)) tags passed None
+    ensures yielded { (tags after : Mergetags OwnedHeaders) (consumed : List (Result TagRef Error))
+        → YieldsThen (NextMergetag (YieldsFirstBy pair_of remaining_owned_headers)) tags consumed None
         after → AllZip (IsTagOf (mergetag_kind tags)) (remaining_mergetags remaining_owned_headers tags)
-        passed }
+        consumed }
     ensures tags { (tags : Mergetags OwnedHeaders) (read : List (Option TagLines))
         → AllZip (IsTagOrNone (mergetag_kind tags)) (remaining_mergetags remaining_owned_headers tags) read
         → YieldsList (NextMergetag (YieldsFirstBy pair_of remaining_owned_headers)) tag_if_ok tags

@@ -71,7 +71,7 @@ returns-clause-written g c =
     let node = c.args.node.now in
     let all = leaf_trees (inside_of node) in
     let inside : leaf_trees (below (parts (child_list c.node.inside.children))) ≡ all = ap (λ (ds : Opened). leaf_trees (inside_of ds)) c.node.view_is in
-    let passed : c.emit.new.pairs.items ≡ ok.4.0 = c.emit.ensures.items ∙ ok.4.1 ∙ ap (λ ps. ps ++ ok.4.0) c.new-trees.ensures.items in
+    let pairs_are : c.emit.new.pairs.items ≡ ok.4.0 = c.emit.ensures.items ∙ ok.4.1 ∙ ap (λ ps. ps ++ ok.4.0) c.new-trees.ensures.items in
     let was : leaf_trees (below (parts (child_list c.replace-children.result))) ≡ all =
     ap (λ (cs : Children). leaf_trees (below (parts (child_list cs)))) c.replace-children.ensures.value ∙ inside in
     let taken : reverse c.take_leaf_trees.new.trees.items ≡ all =
@@ -80,7 +80,7 @@ returns-clause-written g c =
     ∙ reverse-reverse (leaf_trees (below (parts (child_list c.replace-children.result)))) ∙ was in
     let fills : Fills ok.4.0 (reverse c.take_leaf_trees.new.trees.items) ok.0 = subst (λ ts. Fills ok.4.0 ts ok.0) (sym taken) ok.4.2 in
     let filled : c.fill.new.pairs ≡ ok.0 =
-    c.fill.ensures ok.0 (subst (λ us. Fills us (reverse c.take_leaf_trees.new.trees.items) ok.0) (sym (c.deref_mut.ensures.value ∙ passed)) fills) in
+    c.fill.ensures ok.0 (subst (λ us. Fills us (reverse c.take_leaf_trees.new.trees.items) ok.0) (sym (c.deref_mut.ensures.value ∙ pairs_are)) fills) in
     let back = with_items_is c.emit.new.pairs c.fill.new.pairs (c.fill.auto.pairs ∙ c.deref_mut.ensures.len) in
     let pushed = (rw room at c.push.ensures.items) ∙ ap (λ ps. ps ++ (c.in_ok-id.id, own) ∷ []) (back ∙ filled) in
     let remaining : opened c.become_own.new.entries c.node.inside.base (parts (child_list c.replace-children.new.dest)) ≡ opened own c.node.inside.base [] =
