@@ -104,7 +104,7 @@ emits_entries_of_childless : (ds : Opened) (tree base : List EntryView) → ds �
     → EmitsEntries (dirs_of ds) (bases_of ds) es [] es 0
 emits_entries_of_childless ds tree base is [] filled = end (dirs_of ds) (bases_of ds)
 emits_entries_of_childless ds tree base is (e ∷ es) filled =
-    subst (λ own. EmitsEntries (dirs_of ds) (bases_of ds) (e ∷ es) [] own 0) (ap (λ b. cond b [] (e ∷ []) ++ es) filled.0)
+    subst (λ written_tree. EmitsEntries (dirs_of ds) (bases_of ds) (e ∷ es) [] written_tree 0) (ap (λ b. cond b [] (e ∷ []) ++ es) filled.0)
     (unopened (dirs_of ds) (bases_of ds) e es [] es 0 (ap (λ (d : Opened). dirs_of d (e.name ∷ [])) is)
     (emits_entries_of_childless ds tree base is es filled.1))
 

@@ -37,7 +37,7 @@ pub record Ahead (node : Opened) (rest : List EntryView) (remaining : List Child
 
 -- the entries that a frame holds
 abbrev pub held_entries : HeldTree → List EntryView
-held_entries (held.Own tree) = tree.now
+held_entries (held.Lent tree) = tree.now
 held_entries (held.Copied tree) = tree
 
 -- the entries that remain in a frame
@@ -45,23 +45,23 @@ abbrev pub remaining_entries : Frame → List EntryView
 remaining_entries f = drop f.next (held_entries f.tree)
 
 -- the written tree of a frame so far
-abbrev pub own_entries : Frame → List EntryView
-own_entries f = so_far f.base.now f.own
+abbrev pub written_entries : Frame → List EntryView
+written_entries f = so_far f.base.now f.written_tree
 
 -- a frame holds the entries and the base of its directory; the children that remain are those of these entries
 pub record IsInStep (f : Frame) (rest : List EntryView) : Type 0 where
   pub root : dirs_of f.node.now [] ≡ Some (held_entries f.tree)
   pub based : bases_of f.node.now [] ≡ Some f.base.now
   pub formed : IsWellFormed (held_entries f.tree)
-  pub shares_base : SharesBase f.base.now f.own
+  pub shares_base : SharesBase f.base.now f.written_tree
   pub filled : AreNonEmpty (λ (p : Vec Child Global). p.items) f.remaining.more.now
   pub ahead : Ahead f.node.now rest (remaining_list f.remaining)
 
 -- these pairs, and whatever the remaining entries emit, are what all entries of the frame emit
 abbrev pub HasWalked : Frame → List Pair → ℕ → Type 0
-HasWalked f ps count = (qs : List Pair) (own : List EntryView) (n : ℕ)
-    → EmitsEntries (dirs_of f.node.now) (bases_of f.node.now) (remaining_entries f) qs own n
-    → EmitsEntries (dirs_of f.node.now) (bases_of f.node.now) (held_entries f.tree) (ps ++ qs) (own_entries f ++ own)
+HasWalked f ps count = (qs : List Pair) (written_tree : List EntryView) (n : ℕ)
+    → EmitsEntries (dirs_of f.node.now) (bases_of f.node.now) (remaining_entries f) qs written_tree n
+    → EmitsEntries (dirs_of f.node.now) (bases_of f.node.now) (held_entries f.tree) (ps ++ qs) (written_entries f ++ written_tree)
     (count + n)
 
 -- what came of a frame: these pairs, leaf trees, and this number of unchanged directories
@@ -99,7 +99,7 @@ HasStepped step.Ends old new qs us = (ps : List Pair) (ts : List (List EntryView
 -- the frame emits these pairs next
 abbrev pub EmitsNext : Frame → List Pair → Type 0
 EmitsNext f qs = (ps : List Pair) (ts : List (List EntryView)) (count : ℕ) → HasCome f ps ts count
-    → (own : List EntryView) × (n : ℕ) × EmitsBelow (dirs_of f.node.now) (bases_of f.node.now) (ps ++ qs) own n
+    → (written_tree : List EntryView) × (n : ℕ) × EmitsBelow (dirs_of f.node.now) (bases_of f.node.now) (ps ++ qs) written_tree n
 
 -- the weight of open directories: two for each, and one for each entry
 abbrev pub weight_of : Opened → ℕ
@@ -131,9 +131,9 @@ visited_leaf_trees (visit.Id id) child = child_leaf_trees child
 visited_leaf_trees (visit.Begins node) child = []
 
 -- after its own pairs a directory of this base and written tree emits these pairs, and its entry becomes these entries
-abbrev pub EmitsOwn : List EntryView → EntryView → List EntryView → List Pair → List EntryView → ℕ → Type 0
-EmitsOwn base e own more kept count = (inside based : Dirs) (inner : List Pair) (n : ℕ) → based [] ≡ Some base
-    → EmitsBelow inside based inner own n → EmitsEntry inside based e (inner ++ more) kept (n + count)
+abbrev pub EmitsWritten : List EntryView → EntryView → List EntryView → List Pair → List EntryView → ℕ → Type 0
+EmitsWritten base e written_tree more kept count = (inside based : Dirs) (inner : List Pair) (n : ℕ) → based [] ≡ Some base
+    → EmitsBelow inside based inner written_tree n → EmitsEntry inside based e (inner ++ more) kept (n + count)
 
 -- the frame goes on after the directory that it waited for, whose own tree emitted these pairs
 abbrev pub HasResumed : Frame → Frame → Frame → List Pair → ℕ → Type 0
@@ -145,8 +145,8 @@ HasResumed old done new more k = (ps qs : List Pair) (ts us : List (List EntryVi
 abbrev pub EmitsAfter : Frame → Frame → List Pair → Type 0
 EmitsAfter old done more = (ps qs : List Pair) (ts us : List (List EntryView)) (count n : ℕ)
     → Waits old done.node.now ps ts count → HasCome done qs us n
-    → (own : List EntryView) × (saved : ℕ)
-    × EmitsBelow (dirs_of old.node.now) (bases_of old.node.now) (ps ++ (qs ++ more)) own saved
+    → (written_tree : List EntryView) × (saved : ℕ)
+    × EmitsBelow (dirs_of old.node.now) (bases_of old.node.now) (ps ++ (qs ++ more)) written_tree saved
 
 -- the weight of what remains in a frame
 abbrev pub frame_weight : Frame → ℕ

@@ -164,45 +164,45 @@ module _ {S E : Type 0} (model : StoreModel S) (answers : Answers E) (T : Table)
 
 module _ {S E : Type 0} (model : StoreModel S) (answers : Answers E) where
   -- the own pair of a successful write is its last emitted pair
-  abbrev OwnPair : List Pair → Written → Type 0
-  OwnPair ps written = (own : List EntryView) × Contains ps (written.id, own)
+  abbrev HasWrittenPair : List Pair → Written → Type 0
+  HasWrittenPair ps written = (written_tree : List EntryView) × Contains ps (written.id, written_tree)
 
-  own_last : (ps below : List Pair) (written : Written) (own : List EntryView) → ps ≡ below ++ (written.id, own) ∷ [] → OwnPair ps written
-  own_last ps below written own is = (own, subst (λ (l : List Pair). Contains l (written.id, own)) (sym is) (Contains-push below (written.id, own)))
+  written_pair_is_last : (ps below : List Pair) (written : Written) (written_tree : List EntryView) → ps ≡ below ++ (written.id, written_tree) ∷ [] → HasWrittenPair ps written
+  written_pair_is_last ps below written written_tree is = (written_tree, subst (λ (l : List Pair). Contains l (written.id, written_tree)) (sym is) (Contains-push below (written.id, written_tree)))
 
-  own_as : (w written : Written) (ps : List Pair) → Some w ≡ Some written → OwnPair ps w → OwnPair ps written
-  own_as w written ps is own = let same : w ≡ written = cc is in subst (λ (it : Written). OwnPair ps it) same own
+  has_written_pair_of_append : (w written : Written) (ps : List Pair) → Some w ≡ Some written → HasWrittenPair ps w → HasWrittenPair ps written
+  has_written_pair_of_append w written ps is written_tree = let same : w ≡ written = cc is in subst (λ (it : Written). HasWrittenPair ps it) same written_tree
 
-  edit_own : (old new : State S) (it : Edit) (its_reply : EditReply E) (written : Written) → IsEditReply model answers at_root old it its_reply new
-      → written_by (reply.Edit its_reply) ≡ Some written → OwnPair (pairs_of_edit its_reply) written
-  edit_own old new edit.Write (edit_reply.Written w) written h is =
-      own_as w written w.trees.items is (own_last w.trees.items h.written.below w h.written.own h.written.last)
-  edit_own old new edit.Write (edit_reply.NotKept w count error) written h is =
-      own_as w written w.trees.items is (own_last w.trees.items h.written.below w h.written.own h.written.last)
-  edit_own old new it edit_reply.Done written h is = absurd (cc is)
-  edit_own old new it (edit_reply.Refused error) written h is = absurd (cc is)
-  edit_own old new it (edit_reply.WriteRefused error) written h is = absurd (cc is)
-  edit_own old new it its_reply written h is = absurd h
+  edit_has_written_pair : (old new : State S) (it : Edit) (its_reply : EditReply E) (written : Written) → IsEditReply model answers at_root old it its_reply new
+      → written_by (reply.Edit its_reply) ≡ Some written → HasWrittenPair (pairs_of_edit its_reply) written
+  edit_has_written_pair old new edit.Write (edit_reply.Written w) written h is =
+      has_written_pair_of_append w written w.trees.items is (written_pair_is_last w.trees.items h.written.below w h.written.written_tree h.written.last)
+  edit_has_written_pair old new edit.Write (edit_reply.NotKept w count error) written h is =
+      has_written_pair_of_append w written w.trees.items is (written_pair_is_last w.trees.items h.written.below w h.written.written_tree h.written.last)
+  edit_has_written_pair old new it edit_reply.Done written h is = absurd (cc is)
+  edit_has_written_pair old new it (edit_reply.Refused error) written h is = absurd (cc is)
+  edit_has_written_pair old new it (edit_reply.WriteRefused error) written h is = absurd (cc is)
+  edit_has_written_pair old new it its_reply written h is = absurd h
 
-  reply_own : (old new : State S) (it : Command) (its_reply : Reply E) (written : Written) → IsReply model answers old it its_reply new
-      → written_by its_reply ≡ Some written → OwnPair (pairs_of its_reply) written
-  reply_own old new (command.Edit it) (reply.Edit its_reply) written h is = edit_own old new it its_reply written h is
-  reply_own old new it (reply.At replies) written h is = absurd (cc is)
-  reply_own old new it (reply.AtRefused error) written h is = absurd (cc is)
-  reply_own old new it reply.RootSet written h is = absurd (cc is)
-  reply_own old new it reply.RootRefused written h is = absurd (cc is)
-  reply_own old new it its_reply written h is = absurd h
+  reply_has_written_pair : (old new : State S) (it : Command) (its_reply : Reply E) (written : Written) → IsReply model answers old it its_reply new
+      → written_by its_reply ≡ Some written → HasWrittenPair (pairs_of its_reply) written
+  reply_has_written_pair old new (command.Edit it) (reply.Edit its_reply) written h is = edit_has_written_pair old new it its_reply written h is
+  reply_has_written_pair old new it (reply.At replies) written h is = absurd (cc is)
+  reply_has_written_pair old new it (reply.AtRefused error) written h is = absurd (cc is)
+  reply_has_written_pair old new it reply.RootSet written h is = absurd (cc is)
+  reply_has_written_pair old new it reply.RootRefused written h is = absurd (cc is)
+  reply_has_written_pair old new it its_reply written h is = absurd h
 
-  run_own : (old new : State S) (commands : List Command) (replies : List (Reply E)) → IsRun model answers old commands replies new
-      → (k : ℕ) (written : Written) → written_at replies k ≡ Some written → OwnPair (emitted_pairs replies) written
-  run_own old new [] [] run k written is = absurd (cc is)
-  run_own old new [] (r ∷ replies) run k written is = absurd run
-  run_own old new (c ∷ commands) [] run k written is = absurd run
-  run_own old new (c ∷ commands) (r ∷ replies) (between, first, run) zero written is = let own = reply_own old between c r written first is in
-      (own.0, Contains-append_left (pairs_of r) (emitted_pairs replies) (written.id, own.0) own.1)
-  run_own old new (c ∷ commands) (r ∷ replies) (between, first, run) (suc k) written is = let own =
-      run_own between new commands replies run k written is in
-      (own.0, Contains-append_right (pairs_of r) (emitted_pairs replies) (written.id, own.0) own.1)
+  run_has_written_pair : (old new : State S) (commands : List Command) (replies : List (Reply E)) → IsRun model answers old commands replies new
+      → (k : ℕ) (written : Written) → written_at replies k ≡ Some written → HasWrittenPair (emitted_pairs replies) written
+  run_has_written_pair old new [] [] run k written is = absurd (cc is)
+  run_has_written_pair old new [] (r ∷ replies) run k written is = absurd run
+  run_has_written_pair old new (c ∷ commands) [] run k written is = absurd run
+  run_has_written_pair old new (c ∷ commands) (r ∷ replies) (between, first, run) zero written is = let written_tree = reply_has_written_pair old between c r written first is in
+      (written_tree.0, Contains-append_left (pairs_of r) (emitted_pairs replies) (written.id, written_tree.0) written_tree.1)
+  run_has_written_pair old new (c ∷ commands) (r ∷ replies) (between, first, run) (suc k) written is = let written_tree =
+      run_has_written_pair between new commands replies run k written is in
+      (written_tree.0, Contains-append_right (pairs_of r) (emitted_pairs replies) (written.id, written_tree.0) written_tree.1)
 
   -- a prefix of a run is a run
   run_prefix : (m : ℕ) (old new : State S) (commands : List Command) (replies : List (Reply E)) → IsRun model answers old commands replies new
@@ -234,8 +234,8 @@ module _ {S E : Type 0} (model : StoreModel S) (answers : Answers E) where
       (agrees_with_run_prefix T (model.objects start.store) j replies plain.agrees)
       (agrees_with_written_pairs T replies known j written at_j) has)
       (plain_history_of_prefix T n start j commands replies plain.dirs no_tree) in
-      let mine = run_own start last commands replies run k first at_k in
-      let its = run_own start last commands replies run l second at_l in
+      let mine = run_has_written_pair start last commands replies run k first at_k in
+      let its = run_has_written_pair start last commands replies run l second at_l in
       known_by_trees T pairs known plain.one_id built first.id second.id mine.0 its.0 mine.1 its.1 (files_before k commands replies)
       (files_before l commands replies) (names k first at_k) (names l second at_l)
 

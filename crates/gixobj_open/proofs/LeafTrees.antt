@@ -15,8 +15,8 @@ use Rattle.gixobj_open.specs.Nested.{Level, Opened, Part, bases_of, below, lengt
 use Rattle.gixobj_open.specs.LeafTrees.{is_at_or_below, is_above, is_leaf_tree, leaf_trees}
 
 -- what a directory adds to the leaf trees, by whether it is above the next
-abbrev own_leaf_tree : Bool → Level → List (List EntryView)
-own_leaf_tree above level = cond (not above && is_leaf_tree level) (level.0 ∷ []) []
+abbrev leaf_tree_of_open : Bool → Level → List (List EntryView)
+leaf_tree_of_open above level = cond (not above && is_leaf_tree level) (level.0 ∷ []) []
 
 is_above_under : (name : List ℕ) (path : Path) (ds : Opened) → is_above (name ∷ path) (under name ds) ≡ is_above path ds
 is_above_under name path [] = refl
@@ -37,12 +37,12 @@ not_is_above_below name path (p ∷ ps) others = is_above_under_append name path
 leaf_trees_under_append : (name : List ℕ) (ds : Opened) (rest : Opened) → ((path : Path) → is_above (name ∷ path) rest ≡ false)
     → leaf_trees (under name ds ++ rest) ≡ leaf_trees ds ++ leaf_trees rest
 leaf_trees_under_append name [] rest none = refl
-leaf_trees_under_append name (d ∷ []) rest none = ap (λ b. own_leaf_tree b d.1 ++ leaf_trees rest) (none d.0)
-    ∙ sym (append_assoc (own_leaf_tree false d.1) [] (leaf_trees rest))
+leaf_trees_under_append name (d ∷ []) rest none = ap (λ b. leaf_tree_of_open b d.1 ++ leaf_trees rest) (none d.0)
+    ∙ sym (append_assoc (leaf_tree_of_open false d.1) [] (leaf_trees rest))
 leaf_trees_under_append name (d ∷ e ∷ ds) rest none =
-    ap (λ b. own_leaf_tree b d.1 ++ leaf_trees (under name (e ∷ ds) ++ rest)) (is_above_under name d.0 (e ∷ ds))
-    ∙ ap (λ ts. own_leaf_tree (is_above d.0 (e ∷ ds)) d.1 ++ ts) (leaf_trees_under_append name (e ∷ ds) rest none)
-    ∙ sym (append_assoc (own_leaf_tree (is_above d.0 (e ∷ ds)) d.1) (leaf_trees (e ∷ ds)) (leaf_trees rest))
+    ap (λ b. leaf_tree_of_open b d.1 ++ leaf_trees (under name (e ∷ ds) ++ rest)) (is_above_under name d.0 (e ∷ ds))
+    ∙ ap (λ ts. leaf_tree_of_open (is_above d.0 (e ∷ ds)) d.1 ++ ts) (leaf_trees_under_append name (e ∷ ds) rest none)
+    ∙ sym (append_assoc (leaf_tree_of_open (is_above d.0 (e ∷ ds)) d.1) (leaf_trees (e ∷ ds)) (leaf_trees rest))
 
 pub leaf_trees_below_cons : (p : Part) (ps : List Part) → AllByRecursion (λ q. p.0 ≢ q.0) ps → leaf_trees (below (p ∷ ps)) ≡ leaf_trees p.1 ++ leaf_trees
     (below ps)

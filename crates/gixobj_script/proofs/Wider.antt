@@ -38,7 +38,7 @@ module _ {S E : Type 0} (model : StoreModel S) (answers wider : Answers E) (with
     called = folds tt it.trees.items tt is.called;
     storable = is.storable;
     below = is.below;
-    own = is.own;
+    written_tree = is.written_tree;
     last = is.last;
     dirs = is.dirs;
     bases = is.bases;
@@ -52,7 +52,7 @@ module _ {S E : Type 0} (model : StoreModel S) (answers wider : Answers E) (with
     called = folds tt it.trees.items tt is.called;
     storable = is.storable;
     below = is.below;
-    own = is.own;
+    written_tree = is.written_tree;
     last = is.last;
     dirs = is.dirs;
     bases = is.bases;

@@ -60,7 +60,7 @@ returns-in-Begins-clause-emitted g c =
     let next = option_copied c.next_of.result.0 in
     let r = c.next_of.result.1 in
     let node = c.in-Begins.inner.now in
-    let h : Frame = record { node = f.node; base = f.base; tree = f.tree; next = f.next; remaining = r; own = f.own } in
+    let h : Frame = record { node = f.node; base = f.base; tree = f.tree; next = f.next; remaining = r; written_tree = f.written_tree } in
     let ok = (rw c.in-Begins.is at (c.in_ok-inner.ensures {u = tt}).emitted) in (
       ok.0,
       [],
@@ -108,8 +108,8 @@ returns-clause-emitted g c =
     let is : e ≡ get_or (held_entries f.tree) f.next e = c.index-entries-frame.is ∙ ap (λ xs. get_or xs f.next e) items in
     let next = option_copied c.next_of.result.0 in
     let r = c.next_of.result.1 in
-    let o = c.append_unless_null.new.own in
-    let h : Frame = record { node = f.node; base = f.base; tree = f.tree; next = f.next + 1; remaining = r; own = o } in
+    let o = c.append_unless_null.new.written_tree in
+    let h : Frame = record { node = f.node; base = f.base; tree = f.tree; next = f.next + 1; remaining = r; written_tree = o } in
     let ok = (rw c.in-Id.is at (c.in_ok-inner.ensures {u = tt}).emitted) in
     let kept = c.in_ok-append_unless_null.ensures {u = tt} in (
       ok.0,
@@ -131,4 +131,4 @@ returns-clause-lighter g c =
     let is : e ≡ get_or (held_entries f.tree) f.next e = c.index-entries-frame.is ∙ ap (λ xs. get_or xs f.next e) items in
     let next = option_copied c.next_of.result.0 in
     let r = c.next_of.result.1 in
-    lighter_visited f e low is next r c.next_of.ensures.next c.next_of.ensures.following c.append_unless_null.new.own
+    lighter_visited f e low is next r c.next_of.ensures.next c.next_of.ensures.following c.append_unless_null.new.written_tree
