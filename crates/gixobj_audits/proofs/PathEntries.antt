@@ -36,7 +36,7 @@ comes_of_first_named : (hash : Kind) (input : List ℕ) (name : Name) (e : Entry
 comes_of_first_named hash input name e ((_, _, here, rest, (consumed, begins_with, others), begins), said) =
     (consumed, record { here = here; rest = rest; begins_with = begins_with; begins = begins; others = others; said = said })
 
--- an entry at the beginning has the name of the first that was passed
+-- an entry at the beginning has the name of the first consumed entry
 name_at_beginning : (hash : Kind) (input here rest after : List ℕ) (name : Name) (e x : EntryView) → input ≡ here → BeginsWithEntry hash here e rest
     → IsNamed name e → BeginsWithEntry hash input x after → IsNamed name x
 name_at_beginning hash input here rest after name e x same begins said first =

@@ -1,4 +1,4 @@
--- The trailers that a search for an index passes, and what is written of the found one.
+-- The trailers that a search for an index consumes, and what is written of the found one.
 use Rattle.std.proofs.Common.{◌≡◌, ◌≤◌, ◌+◌, ◌++◌, ℕ, List, [], ap, append_assoc, arith, drop, inl, length, refl, subst, sym, ◌∙◌}
 use Rattle.std.proofs.lemmas.List.{drop-drop, length-drop}
 use Rattle.std.specs.Prelude.{Err, None, Ok, Result, Some}
@@ -20,7 +20,7 @@ last_lines_trans first second third one other = record {
       ∙ sym (append_assoc one.skipped other.skipped (lines_of third));
 }
 
--- the first trailers of the message were passed, and the others remain, on the last lines of the block
+-- the first trailers of the message are consumed, and the others remain, on the last lines of the block
 pub record HasConsumed (message : List ℕ) (consumed : ℕ) (it : Trailers) : Type 0 where
   pub block : List ℕ
   pub has : HasTrailerBlock message block

@@ -1,4 +1,5 @@
--- The frames of a walk: each waits for the next. What came of all, and how each is finished where the walk stops.
+-- Frames of a walk, each of which waits for the next, emit pairs of a write of the root, wherever the walk stops; the
+-- proof of `emit_below` uses it.
 use Rattle.std.proofs.Common.{◌≡◌, ◌∙◌, ◌+◌, ℕ, List, [], ◌∷◌, ◌++◌, Some, drop, refl, sym, ap, subst, arith, append_assoc, append-nil}
 use Rattle.std.specs.Prelude.{reverse}
 use Rattle.std.specs.List.{FoldsTo}
@@ -58,7 +59,7 @@ waiting_emits f inner ps ts count waits qs found =
 append_five : (a b c d e : List Pair) → a ++ ((b ++ (c ++ d)) ++ e) ≡ (a ++ b) ++ (c ++ (d ++ e))
 append_five a b c d e = simp append_assoc
 
--- the same of all frames, finished from the last on
+-- all waiting frames, finished from the last on, emit pairs of a write of the root
 pub all_emit : (root : Opened) (fs : List Frame) (inner : Opened) (ps : List Pair) (ts : List (List EntryView)) (count : ℕ) → AllWait root fs inner ps ts count
     → (qs : List Pair) → EmitsAt inner qs → (more : List Pair) × EmitsAt root (ps ++ (qs ++ more))
 all_emit root [] inner ps ts count all qs found = (

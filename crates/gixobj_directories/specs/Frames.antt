@@ -74,7 +74,8 @@ pub record HasCome (f : Frame) (ps : List Pair) (ts : List (List EntryView)) (co
 abbrev pub HasRoot : Opened → Type 0
 HasRoot node = (entries : List EntryView) × (dirs_of node [] ≡ Some entries)
 
--- the same of a frame that waits for the directory of its next entry
+-- what came of a frame that waits for the directory of its next entry: these pairs, leaf trees, and this number of
+-- unchanged directories
 pub record Waits (f : Frame) (inner : Opened) (ps : List Pair) (ts : List (List EntryView)) (count : ℕ) : Type 0 where
   pub entry : EntryView
   pub low : f.next < length (held_entries f.tree)
@@ -125,7 +126,7 @@ IsVisited (visit.Id id) child e inner =
     EmitsEntry (child_side entries_side child) (child_side base_side child) e inner (entry_unless_null e id) 0
 IsVisited (visit.Begins node) child e inner = IsBegun child node.now × (inner ≡ [])
 
--- the leaf trees of a child that was passed, or none
+-- the leaf trees of a child that was visited, or none
 abbrev pub visited_leaf_trees : Visit → Option Child → List (List EntryView)
 visited_leaf_trees (visit.Id id) child = child_leaf_trees child
 visited_leaf_trees (visit.Begins node) child = []
@@ -135,13 +136,13 @@ abbrev pub EmitsWritten : List EntryView → EntryView → List EntryView → Li
 EmitsWritten base e written_tree more kept count = (inside based : Dirs) (inner : List Pair) (n : ℕ) → based [] ≡ Some base
     → EmitsBelow inside based inner written_tree n → EmitsEntry inside based e (inner ++ more) kept (n + count)
 
--- the frame goes on after the directory that it waited for, whose own tree emitted these pairs
+-- the frame goes on after the directory that it waited for, whose written tree emitted these pairs
 abbrev pub HasResumed : Frame → Frame → Frame → List Pair → ℕ → Type 0
 HasResumed old done new more k = (ps qs : List Pair) (ts us : List (List EntryView)) (count n : ℕ)
     → Waits old done.node.now ps ts count → HasCome done qs us n
     → HasCome new (ps ++ (qs ++ more)) (ts ++ us) (count + (n + k))
 
--- the same, where the write stops
+-- after the directory that the frame waited for, a write that stops has emitted these pairs of its written tree
 abbrev pub EmitsAfter : Frame → Frame → List Pair → Type 0
 EmitsAfter old done more = (ps qs : List Pair) (ts us : List (List EntryView)) (count n : ℕ)
     → Waits old done.node.now ps ts count → HasCome done qs us n

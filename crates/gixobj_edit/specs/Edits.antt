@@ -86,7 +86,7 @@ pub record IsRunOf (hash : Kind) (trees root script : List ℕ) (replies : List 
 
 -- ---- success
 
--- the step of an edit at the place; a write has none
+-- the step of an edit at this location; a write has none
 abbrev pub edit_steps : Location → EditView → List Step
 edit_steps location (upsert names kind id) = history.upsert (path_at location names) (mode_of_kind kind) id ∷ []
 edit_steps location (remove names) = history.remove (path_at location names) ∷ []

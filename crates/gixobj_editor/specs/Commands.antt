@@ -17,7 +17,7 @@ use Rattle.gixobj_editor.specs.declared.reply.EditReply.TheVariants as edit_repl
 use Rattle.gixobj_editor.specs.declared.reply.Reply.{Reply}
 use Rattle.gixobj_editor.specs.declared.reply.Reply.TheVariants as reply
 
--- the place of an edit: the root of the editor, or a cursor at a prefix
+-- the location of an edit: the root of the editor, or a cursor at a prefix
 pub data Location : Type 0 where
   at_root : Location
   at_cursor : Path → Location

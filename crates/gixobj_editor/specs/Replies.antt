@@ -44,12 +44,12 @@ Answers E = List EntryView → Result ObjectId E → Type 0
 abbrev pub IsCallable : {F : Type 0} → (F → Bor (List EntryView) → Type 0) → F → Type 0
 IsCallable pre out = (tree : Bor (List EntryView)) → IsStorable tree.now → pre out tree
 
--- the errors of an edit at the place
+-- the errors of an edit at this location
 abbrev pub IsEditErrorAt : Location → Path → (Error → Type 0) → Error → Type 0
 IsEditErrorAt at_root path rejects error = rejects error
 IsEditErrorAt (at_cursor prefix) path rejects error = IsCursorEditError path rejects error
 
--- the open directories that a write at the place emits from
+-- the open directories that a write at this location emits from
 abbrev pub dirs_at : Location → Dirs → Dirs
 dirs_at at_root dirs = dirs
 dirs_at (at_cursor prefix) dirs = in_path prefix dirs

@@ -70,7 +70,7 @@ pub below_ne_nil : (name : List ℕ) (ds : Opened) (ps : List Part) (found : Lis
 below_ne_nil name [] ps found is none = absurd (cc is)
 below_ne_nil name (d ∷ ds) ps found is none = absurd (cc none)
 
--- a directory with no open directory has at most its own tree as a leaf tree
+-- a directory with no open directory is at most one leaf tree, that of its entries
 pub leaf_trees_of_childless : (es base : List EntryView) (b : Bool) → is_leaf_tree (es, base) ≡ b → leaf_trees (opened es base []) ≡ cond b (es ∷ []) []
 leaf_trees_of_childless es base b is = ap (λ k. cond k (es ∷ []) [] ++ []) is ∙ append-nil (cond b (es ∷ []) [])
 

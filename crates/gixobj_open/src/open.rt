@@ -52,7 +52,7 @@ pub struct Open {
 
 /// The open directories in a directory, in the order of their entries.
 ///
-/// They are a list in pieces, so that an insertion moves few of them. No piece but the first is empty.
+/// They are a list in pieces, so that an insertion moves those of one piece alone. No piece but the first is empty.
 #[cycle(open)]
 #[derive(Drop)]
 pub struct Children {

@@ -1,4 +1,4 @@
-//! The command `show [sha256]` of the program `gixobj` alone. It depends on few of the program's crates,
+//! The command `show [sha256]` of the program `gixobj` alone. It depends on only some of the program's crates,
 //! so it builds fast.
 #![tactic(auto)]
 

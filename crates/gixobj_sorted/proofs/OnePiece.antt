@@ -1,4 +1,5 @@
--- Searches and edits of ascending items: what they make of a list is what they make of the part about the searched key.
+-- A search or an edit of ascending items makes of a list what it makes of the part about the searched key; the proofs
+-- of `find_in`, `insert_in`, `remove_in` and `position_at` use it, and `Joined`.
 use Rattle.std.proofs.Common.{◌≡◌, ◌∙◌, ◌+◌, ◌<◌, ℕ, suc, Bool, true, false, not, cond, List, [], ◌∷◌, ◌++◌, HoldsAt, Less, Equal, Greater, Ordering, Option, Some, None, get_or, set, length, refl, sym, ap, subst, arith}
 use mathlib.Core.Bool.{true≢false}
 use mathlib.Core.List.{append-nil, append_assoc}
@@ -119,7 +120,7 @@ module _ {X : Type 0} (key : X → List ℕ) (k : List ℕ) where
         | Greater ↦ λ e no. ap (λ l. x ∷ l) (sym (without_key_of_all_greater xs (all_greater_of_head_not_before x xs up.0 (ap is_lt e))))
       ] refl
 
-  -- the same of what a search in the piece answers
+  -- what a search in the piece finds, and the piece without it, if `i` is the position of the key
   module _ (xs : List X) (i : ℕ) (up : IsAscending key xs) (at : i ≡ prefix_len (is_before key k) xs) where
     absent_at : (i < length xs → HoldsAt (λ x. has_key key k x ≡ false) xs i) → (d : X) → prefix_len (is_before key k) xs < length xs
         → has_key key k (get_or xs (prefix_len (is_before key k) xs) d) ≡ false
@@ -141,7 +142,7 @@ module _ {X : Type 0} (key : X → List ℕ) (k : List ℕ) where
     without_key_of_none : (i < length xs → HoldsAt (λ x. has_key key k x ≡ false) xs i) → xs ≡ without_key key k xs
     without_key_of_none none = without_key_at_prefix_len xs up (absent_at none)
 
-  -- the same of a search in a list that equals the piece
+  -- the piece without what a search finds in a list that equals the piece
   module _ (l xs : List X) (list : l ≡ xs) {i : ℕ} (up : IsAscending key xs) (at : i ≡ prefix_len (is_before key k) l) where
     pub remove_of_found_in : (d : X) → i < length l → HoldsAt (λ x. has_key key k x ≡ true) l i → remove xs i ≡ without_key key k xs
     remove_of_found_in d low has =
@@ -210,7 +211,7 @@ module _ {X : Type 0} (key : X → List ℕ) (x : X) where
             rw (filter_before_of_all_greater key (key x) xs all, filter_after_of_all_greater key (key x) xs all) refl
       ] refl
 
-  -- the same of what a search in the piece answers
+  -- the piece with the item, set or inserted, if `i` is the position of its key
   module _ (xs : List X) (i : ℕ) (up : IsAscending key xs) (at : i ≡ prefix_len (is_before key (key x)) xs) where
     pub set_of_found : i < length xs → HoldsAt (λ y. has_key key (key x) y ≡ true) xs i → set xs i x ≡ with_item key x xs
     set_of_found low has =

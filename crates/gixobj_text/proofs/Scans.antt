@@ -11,7 +11,7 @@ use Rattle.gixobj_text.specs.FirstLines.{IsFirstLine}
 use Rattle.gixobj_text.specs.BodyLines.{is_blank, trimmed_line}
 use Rattle.gixobj_text.specs.Scanned.{EndsAfter, HasRun, IsWalked, Scanned}
 use Rattle.gixobj_text.specs.TrailerBlocks.{EndsBlank, IsTrailerBlock, IsTrailerBlockStart, IsLastRun, StartsAfter, count_others, trailer_count}
-use Rattle.gixobj_text.specs.declared.commit.message.body.run.Run.{Run}
+use Rattle.gixobj_text.specs.declared.commit.message.body.line_counts.LineCounts.{LineCounts}
 use Rattle.gixobj_text.specs.declared.commit.message.body.scan.Scan.{Scan}
 use Rattle.gixobj_text.proofs.LastRuns.{Parts, parts_of_last_run}
 use Rattle.gixobj_text.proofs.OneLine.{Blank, Filled, Lines, all_snoc, is_last_run_snoc_blank, ends_blank_snoc, is_last_run_snoc_first, is_last_run_snoc_filled}
@@ -44,7 +44,7 @@ has_run_snoc_blank lines line old new blank it going start run = record {
   last = is_last_run_snoc_blank lines it.before it.run it.after line blank it.last;
   going = λ is. cc (going, is);
   starts = subst (λ (n : ℕ). StartsAfter it.before n) (sym start) it.starts;
-  counts = subst (λ (r : Run). Counts it.run r) (sym run) it.counts;
+  counts = subst (λ (r : LineCounts). Counts it.run r) (sym run) it.counts;
 }
 
 pub scanned_snoc_blank : (lines : Lines) (line : List ℕ) (old new : Scan) → Scanned lines old → Blank line
@@ -156,10 +156,10 @@ scanned_of_walked body rest it walked none =
 -- ---- the end of the scan
 
 -- the counts describe a trailer block
-abbrev SaysBlock : Run → Type 0
+abbrev SaysBlock : LineCounts → Type 0
 SaysBlock it = ((0 < it.trailers) × (it.others ≡ 0)) ⊎ (IsTrue it.recognised × (it.others ≤ 3 * it.trailers))
 
-trailer_block_of_counts : (run : Lines) (it : Run) → Counts run it → SaysBlock it → IsTrailerBlock run
+trailer_block_of_counts : (run : Lines) (it : LineCounts) → Counts run it → SaysBlock it → IsTrailerBlock run
 trailer_block_of_counts run it counts (inl (some, none)) = inl (subst (λ (n : ℕ). 0 < n) counts.trailers some, sym counts.others ∙ none)
 trailer_block_of_counts run it counts (inr (is, bound)) =
     inr (
@@ -168,7 +168,7 @@ trailer_block_of_counts run it counts (inr (is, bound)) =
           (subst (λ (n : ℕ). it.others ≤ 3 * n) counts.trailers bound),
     )
 
-says_block_of_trailer_block : (run : Lines) (it : Run) → Counts run it → IsTrailerBlock run → SaysBlock it
+says_block_of_trailer_block : (run : Lines) (it : LineCounts) → Counts run it → IsTrailerBlock run → SaysBlock it
 says_block_of_trailer_block run it counts (inl (some, none)) = inl (subst (λ (n : ℕ). 0 < n) (sym counts.trailers) some, counts.others ∙ none)
 says_block_of_trailer_block run it counts (inr (is, bound)) =
     inr (

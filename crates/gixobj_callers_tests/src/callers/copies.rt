@@ -5,7 +5,7 @@ use gix_object::hash::Kind;
 use gix_object::{Tree, TreeRef, decode};
 use gix_object_tests::samples::id;
 use gixobj_callers::planner::is_tree;
-use gixobj_object_callers::store::{TakeError, read_back, taken_over, tree_copy_of};
+use gixobj_object_callers::store::{TakeError, round_trip, taken_over, tree_copy_of};
 use std::alloc::Global;
 
 /// The encoding of a tree with the file `test.txt`, as `git mktree` writes it.
@@ -29,7 +29,7 @@ fn tree_of(alloc: Global, bytes: &[u8]) -> Result<Tree, decode::Error> {
 
 /// Whether a tree equals its decoded encoding.
 fn round_trips(alloc: Global, tree: &Tree) -> bool {
-    match read_back(alloc, tree, Kind::Sha1) {
+    match round_trip(alloc, tree, Kind::Sha1) {
         Ok(same) => same == *tree,
         Err(_) => false,
     }

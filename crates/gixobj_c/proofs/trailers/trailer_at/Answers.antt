@@ -1,4 +1,4 @@
--- Each step passes one trailer.
+-- Each step consumes one trailer.
 use Rattle.std.proofs.Common.{arith, ◌-◌}
 use Rattle.gixobj_c.proofs.TrailerCalls.{allocation_of_next, no_trailer_of_has_consumed, has_consumed_next, has_consumed_none, trailer_of_next}
 use Rattle.gixobj_c.proofs.trailers.trailer_at.Goals as goal

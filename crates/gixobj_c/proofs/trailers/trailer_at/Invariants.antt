@@ -1,4 +1,4 @@
--- The trailers before the index that were passed, and those that remain.
+-- The consumed trailers, all before the index, and those that remain.
 use Rattle.std.proofs.Common.{◌≤◌, ◌-◌}
 use Rattle.bstr.specs.BStr.{bstr_bytes}
 use Rattle.gixobj_c.proofs.TrailerCalls.{HasConsumed}

@@ -1,5 +1,5 @@
 -- What a step of a write emits by its entry: the directory has ended, the directory of the entry begins, or the entry
--- is passed. They are the clauses of `advance`.
+-- is visited. They are the clauses of `advance`.
 use Rattle.std.proofs.Common.{◌≡◌, ◌∙◌, ◌+◌, ◌++◌, ◌<◌, ◌≤◌, ℕ, [], List, Ok, Err, get_or, length, refl, sym, ap, subst, arith, append-nil}
 use Rattle.std.specs.Fn.{CalledAt}
 use Rattle.std.specs.Option.{option_copied}

@@ -1,4 +1,5 @@
--- The loop of a write over its frames meets its contract: each begins, waits, ends and is resumed.
+-- The loop of a write over its frames emits the trees below a directory: each frame begins, waits, ends and is resumed.
+-- They are the clauses of `emit_below`.
 use Rattle.std.proofs.Common.{◌≡◌, ◌∙◌, ◌++◌, [], Ok, Err, refl, sym, ap, subst, arith}
 use Rattle.std.specs.Prelude.{reverse}
 use Rattle.std.specs.Fn.{CalledAt}

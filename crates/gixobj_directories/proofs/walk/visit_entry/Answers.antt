@@ -1,4 +1,4 @@
--- What passing an entry emits: nothing for one without an open directory, the tree of a leaf, or nothing yet for one
+-- What the visit of an entry emits: nothing for one without an open directory, the tree of a leaf, or nothing yet for one
 -- whose directory begins. They are the clauses of `visit_entry`.
 use Rattle.std.proofs.Common.{◌≡◌, ◌≢◌, ◌∙◌, ℕ, [], ◌∷◌, ◌++◌, List, Option, Some, None, Ok, Err, refl, sym, ap, subst, append-nil}
 use Rattle.std.specs.Fn.{CalledAt}

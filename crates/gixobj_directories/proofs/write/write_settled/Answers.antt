@@ -1,5 +1,5 @@
--- A write of a directory meets its contract: the pairs with their moved trees, the directory after the write, and each
--- error.
+-- A write of a directory returns the pairs of its emitted trees, with the moved leaf trees, leaves the written tree
+-- open alone, and fails as the walk does. They are the clauses of `write_settled`.
 use Rattle.std.proofs.Common.{arith, ◌≡◌, ◌≢◌, ◌∙◌, ◌++◌, ℕ, length, [], ◌∷◌, List, Ok, Err, refl, sym, ap, subst, append-nil}
 use Rattle.std.specs.Fn.{CalledAt}
 use Rattle.gixobj_tree.specs.Entries.{EntryView, Pair}

@@ -13,6 +13,12 @@ use gixobj_hash::OutOfMemory;
 use std::alloc::Global;
 
 /// Makes the call of an OpenPGP or X.509 program, whose input is the payload.
+///
+/// Allocates the parts of the call.
+///
+/// # Errors
+///
+/// [`OutOfMemory`] if an allocation fails.
 pub fn gpg_call_of(alloc: Global, payload: &[u8], options: &Options) -> Result<Call, OutOfMemory>
     ensures { IfOk result (λ it. call_view it ≡ gpg_call (sign_options_view options.now) payload.now) }
 {
@@ -30,6 +36,12 @@ pub fn gpg_call_of(alloc: Global, payload: &[u8], options: &Options) -> Result<C
 }
 
 /// Makes the call of an SSH program, which signs a file with the payload.
+///
+/// Allocates the parts of the call.
+///
+/// # Errors
+///
+/// [`OutOfMemory`] if an allocation fails.
 pub fn ssh_call_of(alloc: Global, payload: &[u8], options: &Options) -> Result<Call, OutOfMemory>
     ensures { IfOk result (λ it. call_view it ≡ ssh_call (sign_options_view options.now) payload.now) }
 {

@@ -5,8 +5,8 @@ ghost use Rattle.gixobj_text.specs.BodyLines.{is_blank, trimmed_line};
 ghost use Rattle.gixobj_text.specs.Scanned.{AddsLine, Scanned};
 ghost use Rattle.gixobj_text.specs.TrailerBlocks.{IsTrailerBlockStart};
 
+use crate::commit::message::body::line_counts::LineCounts;
 use crate::commit::message::body::lines::{is_blank_line, line_content, split_line};
-use crate::commit::message::body::run::Run;
 
 /// The state of a scan after some lines.
 #[derive(Clone, Copy, Debug)]
@@ -24,7 +24,7 @@ pub(crate) struct Scan {
     /// Whether there is a run.
     some: bool,
     /// The counts of the last run.
-    run: Run,
+    run: LineCounts,
 }
 
 impl Scan {
@@ -42,7 +42,7 @@ impl Scan {
             start: 0,
             going: false,
             some: false,
-            run: Run::new(),
+            run: LineCounts::new(),
         }
     }
 
@@ -111,7 +111,7 @@ impl Scan {
             start: self.next,
             going: true,
             some: true,
-            run: Run::new().with_line(line),
+            run: LineCounts::new().with_line(line),
         }
     }
 
