@@ -43,7 +43,8 @@ open_of_emits : (dirs bases : Dirs) (ps : List Pair) (written_tree : List EntryV
 open_of_emits dirs bases ps written_tree n (of_entries d b entries below os m is walk) = (entries, is)
 
 -- a directory that isn't open emits nothing
-unopened_not_emitted : (dirs others bases : Dirs) (name : List ℕ) (ps : List Pair) (written_tree : List EntryView) (n : ℕ) → dirs (name ∷ []) ≡ others (name ∷ [])
+unopened_not_emitted : (dirs others bases : Dirs) (name : List ℕ) (ps : List Pair) (written_tree : List EntryView) (n : ℕ)
+    → dirs (name ∷ []) ≡ others (name ∷ [])
     → dirs (name ∷ []) ≡ None → EmitsBelow (in_dir name others) bases ps written_tree n → ⊥
 unopened_not_emitted dirs others bases name ps written_tree n same none emits =
     let it = open_of_emits (in_dir name others) bases ps written_tree n emits in none_not_some (dirs (name ∷ [])) it.0 none (same ∙ it.1)
@@ -59,7 +60,8 @@ module _ (f : List EntryView → ObjectId) where
   mutual
     below_unique : (dirs others bases its : Dirs) → AreAlike dirs others bases its → (ps qs : List Pair) (written_tree other : List EntryView) (n k : ℕ)
         → HaveIdsBy f ps → HaveIdsBy f qs → EmitsBelow dirs bases ps written_tree n → EmitsBelow others its qs other k → AreOne ps qs written_tree other n k
-    below_unique dirs others bases its alike ps qs written_tree other n k by also (of_entries _ _ entries _ _ _ is walk) (of_entries _ _ entries' _ _ _ is' walk') =
+    below_unique dirs others bases its alike ps qs written_tree other n k by also (of_entries _ _ entries _ _ _ is walk)
+        (of_entries _ _ entries' _ _ _ is' walk') =
         let same : entries' ≡ entries = some_injective entries' entries (sym is' ∙ (sym (alike.open_dirs []) ∙ is)) in
         entries_unique dirs others bases its alike entries ps qs written_tree other n k by also walk
         (subst (λ (es : List EntryView). EmitsEntries others its es qs other k) same walk')
@@ -168,12 +170,15 @@ module _ (f : List EntryView → ObjectId) where
 
   pub emits_unique : (dirs others bases its : Dirs) (saved saved' : ℕ) (pairs pairs' : List Pair) → AreSameDirs dirs others → AreSameDirs bases its
       → HaveIdsBy f pairs → HaveIdsBy f pairs' → Emits dirs bases saved pairs → Emits others its saved' pairs' → (pairs ≡ pairs') × (saved ≡ saved')
-  emits_unique dirs others bases its saved saved' pairs pairs' same_dirs same_bases by also (below, id, written_tree, saves, is) (below', id', written_tree', saves', is') =
+  emits_unique dirs others bases its saved saved' pairs pairs' same_dirs same_bases by also (below, id, written_tree, saves, is)
+      (below', id', written_tree', saves', is') =
       let all = subst (HaveIdsBy f) is by in
       let all' = subst (HaveIdsBy f) is' also in
-      let it = below_unique dirs others bases its (record { open_dirs = same_dirs; open_bases = same_bases }) below below' written_tree written_tree' saves.0 saves'.0
+      let it = below_unique dirs others bases its (record { open_dirs = same_dirs; open_bases = same_bases }) below below' written_tree written_tree' saves.0
+          saves'.0
       (ids_of_prefix f below ((id, written_tree) ∷ []) all) (ids_of_prefix f below' ((id', written_tree') ∷ []) all') saves.1 saves'.1 in
-      let one : id ≡ id' = (ids_of_suffix f below ((id, written_tree) ∷ []) all).0 ∙ (ap f it.tree ∙ sym (ids_of_suffix f below' ((id', written_tree') ∷ []) all').0) in (
+      let one : id ≡ id' = (ids_of_suffix f below ((id, written_tree) ∷ []) all).0
+          ∙ (ap f it.tree ∙ sym (ids_of_suffix f below' ((id', written_tree') ∷ []) all').0) in (
         is ∙ (ap (λ es. below ++ (id, es) ∷ []) it.tree ∙ (ap (λ (x : ObjectId). below ++ (x, written_tree') ∷ []) one
             ∙ (ap (λ xs. xs ++ (id', written_tree') ∷ []) it.pairs ∙ sym is'))),
         saves.2 ∙ (ap (λ x. raised 0 x) it.count ∙ sym saves'.2),

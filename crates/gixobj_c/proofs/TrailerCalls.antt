@@ -44,7 +44,8 @@ has_consumed_next message consumed next before after answer trailer it steps is 
       block = it.block;
       has = it.has;
       last_lines = last_lines_trans it.block (remaining_bytes before) (remaining_bytes after) it.last_lines step.3;
-      rest = ap (λ (n : ℕ). drop n (trailers_of_bytes it.block)) same ∙ sym (drop-drop 1 consumed (trailers_of_bytes it.block)) ∙ ap (drop 1) (it.rest ∙ step.0);
+      rest = ap (λ (n : ℕ). drop n (trailers_of_bytes it.block)) same ∙ sym (drop-drop 1 consumed (trailers_of_bytes it.block))
+          ∙ ap (drop 1) (it.rest ∙ step.0);
     }
 
 pub trailer_of_next : (message : List ℕ) (consumed index : ℕ) (before after : Trailers) (answer : Result TrailerRef OutOfMemory) (trailer : TrailerRef)

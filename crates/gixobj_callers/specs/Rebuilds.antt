@@ -26,7 +26,8 @@ id_named (Some written) = Some written.id
 
 -- the reply at this index reports a write of the root that names this id
 abbrev pub NamesWritten : {E : Type 0} → List (Reply E) → ℕ → ObjectId → Type 0
-NamesWritten replies position id = (written : Written) × (written_at replies position ≡ Some written) × (written.id ≡ id)
+NamesWritten replies position id = (written : Written) × (written_at replies position ≡ Some written)
+    × (written.id ≡ id)
 
 -- the number of commands up to the later of two indices
 abbrev pub up_to : ℕ → ℕ → ℕ

@@ -286,7 +286,8 @@ BlocksBefore kind content input = (leading : List ℕ) × (content ≡ leading +
 blocks_before_snoc : (kind : Kind) (lines : List LineView) (content : List ℕ) (next : State) (after : List ℕ) (before : State) (input : List ℕ)
     (line : LineView)
     (next_state : State) (rest : List ℕ)
-    → IsBlockLine kind content next after → BeginsWithPieces (BeginsWithLine kind) next after lines before input → BeginsWithLine kind before input line next_state rest
+    → IsBlockLine kind content next after → BeginsWithPieces (BeginsWithLine kind) next after lines before input
+        → BeginsWithLine kind before input line next_state rest
     → BlocksBefore kind after input → BlocksBefore kind content input
 unfolding BlocksBefore
 blocks_before_snoc kind lines content next after before input line next_state rest (inl (is, (message, same))) begins_with comes blocks =
@@ -304,7 +305,8 @@ blocks_before_of_begins_with : (kind : Kind) (lines : List LineView) (here : Sta
     → BeginsWithPieces (BeginsWithLine kind) here content lines before input → All (λ it. ¬ IsNamedLine (signature_field kind) it) lines
     → BeginsWithLine kind before input line next_state rest → BlocksBefore kind content input
 unfolding BlocksBefore
-blocks_before_of_begins_with kind [] here content before input line next_state rest begins_with others comes = ([], begins_with.1, blocks_nil (signature_field kind))
+blocks_before_of_begins_with kind [] here content before input line next_state rest begins_with others comes =
+    ([], begins_with.1, blocks_nil (signature_field kind))
 blocks_before_of_begins_with kind (first ∷ lines) here content before input line next_state rest (next, after, has, more) others comes =
     blocks_before_snoc kind lines content next after before input line next_state rest
     (block_line_of_header kind here content first next after has (All-head (λ (it : LineView). ¬ IsNamedLine (signature_field kind) it) first lines others))

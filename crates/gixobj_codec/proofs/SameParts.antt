@@ -41,7 +41,8 @@ begins_with_parent_lines kind (hex ∷ hexes) rest lines following end are begin
     let P : List ℕ → Type 0 = IsIdHexOfKind kind in
     let one : IsIdHexOfKind kind hex = All-head P hex hexes are in
     let more = flat_map encode_parent hexes ++ rest in
-    let parts : BeginsWithPieces (BeginsWithLine kind) state.Parents (encode_parent hex ++ more) (parent_line hex ∷ (map parent_line hexes ++ lines)) following end = (
+    let parts : BeginsWithPieces (BeginsWithLine kind) state.Parents (encode_parent hex ++ more)
+        (parent_line hex ∷ (map parent_line hexes ++ lines)) following end = (
       state.Parents,
       more,
       parent_comes _ hex _ (has_field_of_encode_field (codes "parent") hex more (hex_digits_newline_free hex one.1), one),
@@ -52,7 +53,8 @@ begins_with_parent_lines kind (hex ∷ hexes) rest lines following end are begin
 
 module _ (kind : Kind) (content : List ℕ) (commit : CommitLines) (is : DecodesToCommit kind content commit) where
   -- bytes that begin with these lines of a decoded commit yield them
-  pub begins_with_lines_before_encoding : (rest : List ℕ) → BeginsWithPieces (BeginsWithLine kind) state.Tree (before_encoding commit ++ rest) (lines_before_encoding commit)
+  pub begins_with_lines_before_encoding : (rest : List ℕ) → BeginsWithPieces (BeginsWithLine kind) state.Tree (before_encoding commit ++ rest)
+      (lines_before_encoding commit)
       state.Encoding rest
   begins_with_lines_before_encoding rest =
       let committer_rest = encode_field (codes "committer") commit.committer ++ rest in

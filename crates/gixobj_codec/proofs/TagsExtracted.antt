@@ -11,7 +11,8 @@ use Rattle.gixobj_tag.specs.TagSigning.{payload_of_tag, signed_as}
 use Rattle.gixobj_codec.specs.OneMarker.{HasOneMarker}
 
 -- of two splits of the same bytes, the longer prefix is the shorter one and more
-pub prefix_of_append_eq : (p bytes head rest : List ℕ) → p ++ bytes ≡ head ++ rest → length p ≤ length head → (more : List ℕ) × (head ≡ p ++ more) × (bytes ≡ more ++ rest)
+pub prefix_of_append_eq : (p bytes head rest : List ℕ) → p ++ bytes ≡ head ++ rest → length p ≤ length head
+    → (more : List ℕ) × (head ≡ p ++ more) × (bytes ≡ more ++ rest)
 prefix_of_append_eq [] bytes head rest same long = (head, refl, same)
 prefix_of_append_eq (byte ∷ p) bytes [] rest same long = absurd (omega arith)
 prefix_of_append_eq (byte ∷ p) bytes (other ∷ head) rest same long =
@@ -77,7 +78,8 @@ marker_place_eq_payload_len unsigned bytes position format own begins one is =
       marked = begins;
     } in
     let len_le : length (unsigned ++ 10 ∷ []) ≤ position = is.last (length (unsigned ++ 10 ∷ [])) own here in
-    let none : position - length (unsigned ++ 10 ∷ []) ≡ 0 = one _ format (has_marker_at_after_prefix (unsigned ++ 10 ∷ []) bytes position format len_le is.here) in
+    let none : position - length (unsigned ++ 10 ∷ []) ≡ 0 = one _ format
+        (has_marker_at_after_prefix (unsigned ++ 10 ∷ []) bytes position format len_le is.here) in
     omega (arith, len_le, none)
 
 -- the payload and the signature that are found are the tag's and the signer's

@@ -48,7 +48,8 @@ module _ {S : Type 0} (rest : S → List Header) where
 
   -- ---- a run to its end
 
-  run_consumed_are_tags : (kind : Kind) (s last after : Mergetags S) (consumed : List (Result TagRef Error)) → mergetag_kind s ≡ kind → Yields Steps s consumed last
+  run_consumed_are_tags : (kind : Kind) (s last after : Mergetags S) (consumed : List (Result TagRef Error)) → mergetag_kind s ≡ kind
+      → Yields Steps s consumed last
       → Steps last None after
       → AllZip (IsTagOf kind) (remaining_mergetags rest s) consumed
   run_consumed_are_tags kind s last after [] same yielded none =

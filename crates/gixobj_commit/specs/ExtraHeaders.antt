@@ -76,7 +76,8 @@ module _ {S : Type 0} (steps : S → Option (BStr × BStr) → S → Type 0) (na
 
   -- the number of headers that the iterator yields before the first of this name, or none if it yields none
   abbrev pub FindsPosition : S → Option ℕ → Type 0
-  FindsPosition from result = (consumed : List (BStr × BStr)) × (to : S) × MatchOption result (Gave from consumed None to)
+  FindsPosition from result = (consumed : List (BStr × BStr)) × (to : S)
+      × MatchOption result (Gave from consumed None to)
       (λ index. (value : BStr) × Gave from consumed (Some value) to × (length consumed ≡ suc index))
 
 -- one step of a search for all values of a name: the next of them, or none at the end

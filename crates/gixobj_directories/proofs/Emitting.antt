@@ -55,12 +55,14 @@ emits_below_of_both dirs bases dirs' bases' is b ps written_tree n found = subst
 emits_below_congruent : (inside based : Dirs) (dirs bases : Dirs) (name : List ℕ) → in_dir name dirs ≡ inside → in_dir name bases ≡ based
     → (inner : List Pair) (written_tree : List EntryView) (saved : ℕ) → EmitsBelow inside based inner written_tree saved
     → EmitsBelow (in_dir name dirs) (in_dir name bases) inner written_tree saved
-emits_below_congruent inside based dirs bases name is b inner written_tree saved found = subst (λ (d : Dirs). EmitsBelow d (in_dir name bases) inner written_tree saved) (sym is)
+emits_below_congruent inside based dirs bases name is b inner written_tree saved found =
+    subst (λ (d : Dirs). EmitsBelow d (in_dir name bases) inner written_tree saved) (sym is)
     (subst (λ (d : Dirs). EmitsBelow inside d inner written_tree saved) (sym b) found)
 
 pub emits_entry_emptied : (inside based : Dirs) (e : EntryView) (inner : List Pair) (written_tree : List EntryView) (saved : ℕ) → written_tree ≡ []
     → EmitsBelow inside based inner written_tree saved → EmitsEntry inside based e inner [] saved
-emits_entry_emptied inside based e inner [] saved is found = λ dirs bases same b entries below written_tree more walk. left_out_if_empty dirs bases e entries inner
+emits_entry_emptied inside based e inner [] saved is found = λ dirs bases same b entries below written_tree more walk. left_out_if_empty dirs bases e entries
+    inner
     below written_tree
     saved more
     (emits_below_congruent inside based dirs bases e.name same b inner [] saved found) walk
@@ -280,7 +282,8 @@ all_emitted_not_null : (dirs bases : Dirs) (entries : List EntryView) (below : L
 all_emitted_not_null dirs bases entries below written_tree n (end dirs' b') = tt
 all_emitted_not_null dirs bases entries below written_tree n (unopened dirs' b' e es ps os m none walk) =
     all_not_null_entry_unless_null e e.id os (all_emitted_not_null dirs' b' es ps os m walk)
-all_emitted_not_null dirs bases entries below written_tree n (left_out_if_empty dirs' b' e es inner ps os i m found walk) = all_emitted_not_null dirs' b' es ps os m walk
+all_emitted_not_null dirs bases entries below written_tree n (left_out_if_empty dirs' b' e es inner ps os i m found walk) =
+    all_emitted_not_null dirs' b' es ps os m walk
 all_emitted_not_null dirs bases entries below written_tree n (written dirs' b' e first es rest inner ps os i m id found changed walk) =
     all_not_null_entry_unless_null e id os (all_emitted_not_null dirs' b' es ps os m walk)
 all_emitted_not_null dirs bases entries below written_tree n (unchanged dirs' b' e first es rest inner ps os i m found same_base walk) =
@@ -320,17 +323,20 @@ module _ (dirs bases inside based : Dirs) (items : List EntryView) (i : ℕ) (e 
       → EmitsEntries dirs bases items (ps ++ (inner ++ qs)) (acc ++ (kept ++ written_tree)) (count + (saved + n))
   walk_goes qs written_tree n walk =
       let here : drop i items ≡ e ∷ drop (i + 1) items = rw add-one (drop-cons items i e low ∙ ap (λ x. x ∷ drop (suc i) items) (sym is)) in
-      so_far (inner ++ qs) (kept ++ written_tree) (saved + n) (subst (λ es. EmitsEntries dirs bases es (inner ++ qs) (kept ++ written_tree) (saved + n)) (sym here)
+      so_far (inner ++ qs) (kept ++ written_tree) (saved + n) (subst (λ es. EmitsEntries dirs bases es (inner ++ qs) (kept ++ written_tree) (saved + n))
+          (sym here)
       (seen dirs bases same base (drop (i + 1) items) qs written_tree n walk))
 
   pub walk_step : (next : List EntryView) → next ≡ acc ++ kept → (qs : List Pair) (written_tree : List EntryView) (n : ℕ)
-      → EmitsEntries dirs bases (drop (i + 1) items) qs written_tree n → EmitsEntries dirs bases items ((ps ++ inner) ++ qs) (next ++ written_tree) (count + saved + n)
+      → EmitsEntries dirs bases (drop (i + 1) items) qs written_tree n → EmitsEntries dirs bases items ((ps ++ inner) ++ qs) (next ++ written_tree)
+          (count + saved + n)
   walk_step next is_next qs written_tree n walk = walks_of_count (count + (saved + n)) (count + saved + n) (omega arith)
       (rw (is_next, append_assoc, append_assoc) (walk_goes qs written_tree n walk))
 
 -- the end of a walk
 pub walks_at_end : (dirs bases : Dirs) (items : List EntryView) (i : ℕ) (ps : List Pair) (acc : List EntryView) (count : ℕ) → length items ≤ i
-    → ((qs : List Pair) (written_tree : List EntryView) (n : ℕ) → EmitsEntries dirs bases (drop i items) qs written_tree n → EmitsEntries dirs bases items (ps ++ qs) (acc ++ written_tree)
+    → ((qs : List Pair) (written_tree : List EntryView) (n : ℕ) → EmitsEntries dirs bases (drop i items) qs written_tree n
+        → EmitsEntries dirs bases items (ps ++ qs) (acc ++ written_tree)
     (count + n))
     → EmitsEntries dirs bases items ps acc count
 walks_at_end dirs bases items i ps acc count high so_far =
@@ -342,7 +348,8 @@ walks_at_end dirs bases items i ps acc count high so_far =
 pub emits_some_append : (dirs bases : Dirs) (below : List Pair) (written_tree : List EntryView) (saved : ℕ) → EmitsBelow dirs bases below written_tree saved
     → (more : List Pair)
     × EmitsSome dirs bases (below ++ more)
-emits_some_append dirs bases below written_tree saved found = ((Sha1 [], written_tree) ∷ [], (raised 0 saved, (below, Sha1 [], written_tree, (saved, found, refl), refl)))
+emits_some_append dirs bases below written_tree saved found = ((Sha1 [], written_tree) ∷ [],
+    (raised 0 saved, (below, Sha1 [], written_tree, (saved, found, refl), refl)))
 
 -- a write that stops does so in equal open directories
 pub stopped_of_same_dirs : {F E : Type 0} (gave : F → Pair → F → Type 0) (rejected : F → List EntryView → E → F → Type 0) (dirs dirs' bases bases' : Dirs)

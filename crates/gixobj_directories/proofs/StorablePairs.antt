@@ -13,13 +13,15 @@ abbrev pub AreStorable : List Pair → Type 0
 AreStorable pairs = AllByRecursion (λ pair. IsStorable pair.1) pairs
 
 mutual
-  pub emits_below_storable : (dirs bases : Dirs) (ps : List Pair) (written_tree : List EntryView) (n : ℕ) → EmitsBelow dirs bases ps written_tree n → AreFormed dirs
+  pub emits_below_storable : (dirs bases : Dirs) (ps : List Pair) (written_tree : List EntryView) (n : ℕ) → EmitsBelow dirs bases ps written_tree n
+      → AreFormed dirs
       → AreStorable ps
       × IsStorable written_tree
   emits_below_storable dirs bases ps written_tree n (of_entries d b es ps' written_tree' m is walk) formed =
       (walk_pairs dirs bases es ps written_tree n walk formed, written_is_storable dirs bases es ps written_tree n walk (formed [] es is))
 
-  walk_pairs : (dirs bases : Dirs) (es : List EntryView) (ps : List Pair) (written_tree : List EntryView) (n : ℕ) → EmitsEntries dirs bases es ps written_tree n → AreFormed dirs
+  walk_pairs : (dirs bases : Dirs) (es : List EntryView) (ps : List Pair) (written_tree : List EntryView) (n : ℕ)
+      → EmitsEntries dirs bases es ps written_tree n → AreFormed dirs
       → AreStorable ps
   walk_pairs dirs bases es ps written_tree n (end d b) formed = tt
   walk_pairs dirs bases es ps written_tree n (unopened d b e rest below os m none walk) formed = walk_pairs d b rest below os m walk formed

@@ -61,7 +61,8 @@ pub record IsInStep (f : Frame) (rest : List EntryView) : Type 0 where
 abbrev pub HasWalked : Frame → List Pair → ℕ → Type 0
 HasWalked f ps count = (qs : List Pair) (written_tree : List EntryView) (n : ℕ)
     → EmitsEntries (dirs_of f.node.now) (bases_of f.node.now) (remaining_entries f) qs written_tree n
-    → EmitsEntries (dirs_of f.node.now) (bases_of f.node.now) (held_entries f.tree) (ps ++ qs) (written_entries f ++ written_tree)
+    → EmitsEntries (dirs_of f.node.now) (bases_of f.node.now) (held_entries f.tree) (ps ++ qs)
+        (written_entries f ++ written_tree)
     (count + n)
 
 -- what came of a frame: these pairs, leaf trees, and this number of unchanged directories
@@ -100,7 +101,8 @@ HasStepped step.Ends old new qs us = (ps : List Pair) (ts : List (List EntryView
 -- the frame emits these pairs next
 abbrev pub EmitsNext : Frame → List Pair → Type 0
 EmitsNext f qs = (ps : List Pair) (ts : List (List EntryView)) (count : ℕ) → HasCome f ps ts count
-    → (written_tree : List EntryView) × (n : ℕ) × EmitsBelow (dirs_of f.node.now) (bases_of f.node.now) (ps ++ qs) written_tree n
+    → (written_tree : List EntryView) × (n : ℕ) × EmitsBelow (dirs_of f.node.now) (bases_of f.node.now)
+        (ps ++ qs) written_tree n
 
 -- the weight of open directories: two for each, and one for each entry
 abbrev pub weight_of : Opened → ℕ
@@ -133,7 +135,8 @@ visited_leaf_trees (visit.Begins node) child = []
 
 -- after its own pairs a directory of this base and written tree emits these pairs, and its entry becomes these entries
 abbrev pub EmitsWritten : List EntryView → EntryView → List EntryView → List Pair → List EntryView → ℕ → Type 0
-EmitsWritten base e written_tree more kept count = (inside based : Dirs) (inner : List Pair) (n : ℕ) → based [] ≡ Some base
+EmitsWritten base e written_tree more kept count = (inside based : Dirs) (inner : List Pair) (n : ℕ)
+    → based [] ≡ Some base
     → EmitsBelow inside based inner written_tree n → EmitsEntry inside based e (inner ++ more) kept (n + count)
 
 -- the frame goes on after the directory that it waited for, whose written tree emitted these pairs

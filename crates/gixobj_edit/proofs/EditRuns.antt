@@ -41,7 +41,8 @@ or_later_none (Some it) later none = absurd (cc none)
 module _ {S : Type 0} (model : StoreModel S) (answers : Answers Error) where
   -- ---- steps
 
-  edit_done_steps : (location : Location) (old new : State S) (it : Edit) (its_reply : EditReply Error) → IsEditReply model answers location old it its_reply new
+  edit_done_steps : (location : Location) (old new : State S) (it : Edit) (its_reply : EditReply Error)
+      → IsEditReply model answers location old it its_reply new
       → edit_reply_failure its_reply ≡ None → steps_of_edit location it its_reply ≡ edit_steps location (edit_view it)
   edit_done_steps location old new (edit.Upsert path kind id) edit_reply.Done is done = refl
   edit_done_steps location old new (edit.Remove path) edit_reply.Done is done = refl

@@ -76,7 +76,8 @@ module _ {S E : Type 0} (model : StoreModel S) (answers : Answers E) where
       trees_exist_of_objects _ _ h in ap (λ (s : State S). model.objects s.store) it.2.rest
   edit_keeps location old new (edit.Upsert path kind id) (edit_reply.Refused error) h = let it =
       trees_exist_of_objects _ _ h.0.effect in ap (λ (s : State S). model.objects s.store) it.2.rest
-  edit_keeps location old new (edit.Remove path) edit_reply.Done h = let it = trees_exist_of_objects _ _ h in ap (λ (s : State S). model.objects s.store) it.2.rest
+  edit_keeps location old new (edit.Remove path) edit_reply.Done h = let it = trees_exist_of_objects _ _ h in
+      ap (λ (s : State S). model.objects s.store) it.2.rest
   edit_keeps location old new (edit.Remove path) (edit_reply.Refused error) h = let it =
       trees_exist_of_objects _ _ h.effect in ap (λ (s : State S). model.objects s.store) it.2.rest
   edit_keeps location old new (edit.RemoveLeaf path) edit_reply.Done h = let it =
@@ -194,7 +195,8 @@ module _ {S E : Type 0} (model : StoreModel S) (answers : Answers E) where
         → HasBases T (open_dirs new) (open_bases new)
     edits_based location old new [] [] h agrees has = unmoved old new h has
     edits_based location old new (it ∷ edits) (r ∷ replies) (between, first, rest) agrees has =
-        edits_based location between new edits replies rest (agrees_throughout_suffix T (kept_of_edit r) (flat_map kept_of_edit replies) (model.objects old.store)
+        edits_based location between new edits replies rest (agrees_throughout_suffix T (kept_of_edit r) (flat_map kept_of_edit replies)
+            (model.objects old.store)
         (model.objects between.store) (edit_keeps location old between it r first) agrees)
         (edit_based location old between it r first (agrees zero) has)
     edits_based location old new [] (r ∷ replies) h agrees has = absurd h

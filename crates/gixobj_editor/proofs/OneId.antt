@@ -167,8 +167,10 @@ module _ {S E : Type 0} (model : StoreModel S) (answers : Answers E) where
   abbrev HasWrittenPair : List Pair → Written → Type 0
   HasWrittenPair ps written = (written_tree : List EntryView) × Contains ps (written.id, written_tree)
 
-  written_pair_is_last : (ps below : List Pair) (written : Written) (written_tree : List EntryView) → ps ≡ below ++ (written.id, written_tree) ∷ [] → HasWrittenPair ps written
-  written_pair_is_last ps below written written_tree is = (written_tree, subst (λ (l : List Pair). Contains l (written.id, written_tree)) (sym is) (Contains-push below (written.id, written_tree)))
+  written_pair_is_last : (ps below : List Pair) (written : Written) (written_tree : List EntryView) → ps ≡ below ++ (written.id, written_tree) ∷ []
+      → HasWrittenPair ps written
+  written_pair_is_last ps below written written_tree is = (written_tree, subst (λ (l : List Pair). Contains l (written.id, written_tree)) (sym is)
+      (Contains-push below (written.id, written_tree)))
 
   has_written_pair_of_append : (w written : Written) (ps : List Pair) → Some w ≡ Some written → HasWrittenPair ps w → HasWrittenPair ps written
   has_written_pair_of_append w written ps is written_tree = let same : w ≡ written = cc is in subst (λ (it : Written). HasWrittenPair ps it) same written_tree
@@ -198,7 +200,8 @@ module _ {S E : Type 0} (model : StoreModel S) (answers : Answers E) where
   run_has_written_pair old new [] [] run k written is = absurd (cc is)
   run_has_written_pair old new [] (r ∷ replies) run k written is = absurd run
   run_has_written_pair old new (c ∷ commands) [] run k written is = absurd run
-  run_has_written_pair old new (c ∷ commands) (r ∷ replies) (between, first, run) zero written is = let written_tree = reply_has_written_pair old between c r written first is in
+  run_has_written_pair old new (c ∷ commands) (r ∷ replies) (between, first, run) zero written is = let written_tree =
+      reply_has_written_pair old between c r written first is in
       (written_tree.0, Contains-append_left (pairs_of r) (emitted_pairs replies) (written.id, written_tree.0) written_tree.1)
   run_has_written_pair old new (c ∷ commands) (r ∷ replies) (between, first, run) (suc k) written is = let written_tree =
       run_has_written_pair between new commands replies run k written is in

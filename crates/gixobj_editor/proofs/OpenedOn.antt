@@ -98,12 +98,14 @@ module _ (trees : Trees) (ds mid : Opened) (first : OpenedSo ds mid) (was : Open
 pub written_opened_on : {W X : Type 0} (result : Result W X) (ds ds' : Opened)
     → IfOk result (λ _. (written_tree : List EntryView) × IsStorable written_tree × ((base : List EntryView) × (ds' ≡ opened written_tree base [])))
     → OnErr result (ds' ≡ ds) → OpenedOn ds → OpenedOn ds'
-written_opened_on (Ok it) ds ds' (written_tree, storable, remaining) unchanged was = root_opened_on ds' written_tree remaining.0 remaining.1 storable.well_formed
+written_opened_on (Ok it) ds ds' (written_tree, storable, remaining) unchanged was =
+    root_opened_on ds' written_tree remaining.0 remaining.1 storable.well_formed
 written_opened_on (Err error) ds ds' ok unchanged was = subst OpenedOn (sym unchanged) was
 
 -- the invariant after a write of a directory at a prefix
 abbrev pub IsWrittenSo : Path → Opened → Opened → Type 0
-IsWrittenSo prefix ds ds' = (written_tree : List EntryView) × IsStorable written_tree × ((at : Path) → dirs_of ds' at ≡ with_path prefix (only_open written_tree) (dirs_of ds) at)
+IsWrittenSo prefix ds ds' = (written_tree : List EntryView) × IsStorable written_tree
+    × ((at : Path) → dirs_of ds' at ≡ with_path prefix (only_open written_tree) (dirs_of ds) at)
     × EditedSo ds ds'
 
 pub written_below_opened_on : {W X : Type 0} (result : Result W X) (prefix : Path) (ds ds' : Opened) → IfOk result (λ _. IsWrittenSo prefix ds ds')

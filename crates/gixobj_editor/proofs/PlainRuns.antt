@@ -50,7 +50,8 @@ is_clean_of_is_storable entries storable =
     each (x ∷ es) all e (inr h) = each es all.1 e h
 
 -- the last trees of two equal lists of pairs are equal
-last_tree_unique : (head back : List Pair) (x y : ObjectId) (written_tree other : List EntryView) → head ++ (x, written_tree) ∷ [] ≡ back ++ (y, other) ∷ [] → written_tree ≡ other
+last_tree_unique : (head back : List Pair) (x y : ObjectId) (written_tree other : List EntryView) → head ++ (x, written_tree) ∷ [] ≡ back ++ (y, other) ∷ []
+    → written_tree ≡ other
 last_tree_unique [] [] x y written_tree other is = let same : ◌≡◌ {A = Pair} (x, written_tree) (y, other) = cc is in ap (λ (p : Pair). p.1) same
 last_tree_unique [] (b ∷ []) x y written_tree other is = absurd (cc is)
 last_tree_unique [] (b ∷ c ∷ back) x y written_tree other is = absurd (cc is)
@@ -155,7 +156,8 @@ module _ (T : Table) (pairs : List Pair) (known : AgreesWithPairs T pairs) where
   goes_out [] within storable = tt
   goes_out (pair ∷ ps) within storable = ((within.0, is_clean_of_is_storable pair.1 storable.0), goes_out ps within.1 storable.1)
 
-  is_plain_after_write : {S : Type 0} (old new : State S) (prefix : Path) (below : List Pair) (id : ObjectId) (written_tree : List EntryView) (saved : ℕ) → IsPlainState old
+  is_plain_after_write : {S : Type 0} (old new : State S) (prefix : Path) (below : List Pair) (id : ObjectId) (written_tree : List EntryView) (saved : ℕ)
+      → IsPlainState old
       → EmitsBelow (in_path prefix (open_dirs old)) (in_path prefix (open_bases old)) below written_tree saved
       → Within (below ++ (id, written_tree) ∷ []) → AllByRecursion (λ pair. IsStorable pair.1) (below ++ (id, written_tree) ∷ [])
       → ((at : Path) → open_dirs new at ≡ with_path prefix (only_open written_tree) (open_dirs old) at)
@@ -165,7 +167,8 @@ module _ (T : Table) (pairs : List Pair) (known : AgreesWithPairs T pairs) where
       let out = goes_out (below ++ (id, written_tree) ∷ []) within storable in
       let mine = all_right (IsEmitted pairs) below ((id, written_tree) ∷ []) out in
       let it = emits_below_plain pairs (in_path prefix (open_dirs old)) (in_path prefix (open_bases old)) below written_tree saved going
-      (everywhere_in_path (Plain pairs) prefix (open_dirs old) (open_bases old) holds.1) (all_remaining (IsEmitted pairs) below ((id, written_tree) ∷ []) out) in
+      (everywhere_in_path (Plain pairs) prefix (open_dirs old) (open_bases old) holds.1)
+          (all_remaining (IsEmitted pairs) below ((id, written_tree) ∷ []) out) in
       let made : Dirs = with_path prefix (only_open written_tree) (open_dirs old) in (
         carried made (edited_bases (open_dirs old) made (open_bases old)) (open_dirs new) (open_bases new) dirs_are
             (subst (λ (d : Dirs). (at : Path) → open_bases new at ≡ edited_bases (open_dirs old) d (open_bases old) at) (λ i at. dirs_are at i) bases_are)

@@ -75,7 +75,8 @@ module _ {S E : Type 0} (model : StoreModel S) (answers : Answers E) (location :
       → IfErr done (λ error. Of (λ trees. IsAfterFailedEdit model trees old (path_at location (names_of lent)) error new))
       → IfErr done (λ error. Of (RemovesLeaf lent error))
       → IsEditReply model answers location old (edit.RemoveLeaf path) (reply_to done) new
-  leaf_removal_replied (Ok it) removed pending failure = subst (λ (l : List BString). Of (λ trees. IsLeafRemoved trees old (path_at location (names_of l)) new)) is
+  leaf_removal_replied (Ok it) removed pending failure = subst (λ (l : List BString). Of
+      (λ trees. IsLeafRemoved trees old (path_at location (names_of l)) new)) is
       removed
   leaf_removal_replied (Err error) removed pending failure = failed_reply error (λ l trees. RemovesLeaf l error trees) pending failure
 

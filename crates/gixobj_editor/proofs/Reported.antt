@@ -86,7 +86,8 @@ module _ {E : Type 0} where
 
   edits_steps : (location : Location) (edits : List Edit) (replies : List (EditReply E)) → AllByRecursion InsertsNoTree edits
       → AllByRecursion HasNoTree (steps_of_edits location edits replies)
-  edits_steps location (it ∷ edits) (its_reply ∷ replies) other = all_have_no_tree_append (steps_of_edit location it its_reply) (steps_of_edits location edits replies)
+  edits_steps location (it ∷ edits) (its_reply ∷ replies) other = all_have_no_tree_append (steps_of_edit location it its_reply)
+      (steps_of_edits location edits replies)
       (edit_steps location it its_reply other.0) (edits_steps location edits replies other.1)
   edits_steps location edits replies other = tt
 

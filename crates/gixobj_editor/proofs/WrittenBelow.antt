@@ -47,7 +47,8 @@ written_prefix_is_open (Ok it) old new (written_tree, remaining) unchanged same 
     ∙ sym (remaining old.prefix) ∙ subst (λ (p : Path). open_dirs new p ≡ None) same none in cc found
 written_prefix_is_open {S = S} (Err error) old new ok unchanged same there = subst (λ (o : State S). open_dirs o o.prefix ≢ None) (sym unchanged) there
 
-pub is_opened_after_write : (prefix : Path) (written_tree : List EntryView) (ds ds' : Opened) → IsOpened (dirs_of ds) → dirs_of ds prefix ≢ None → IsStorable written_tree
+pub is_opened_after_write : (prefix : Path) (written_tree : List EntryView) (ds ds' : Opened) → IsOpened (dirs_of ds) → dirs_of ds prefix ≢ None
+    → IsStorable written_tree
     → ((at : Path) → dirs_of ds' at ≡ with_path prefix (only_open written_tree) (dirs_of ds) at) → IsOpened (dirs_of ds')
 is_opened_after_write prefix written_tree ds ds' all there storable remaining = subst (λ (d : Dirs). IsOpened d) (sym (λ i at. remaining at i))
     (is_opened_with_only prefix written_tree (dirs_of ds) all there storable.well_formed)
@@ -72,7 +73,8 @@ module _ {S F : Type 0} (store : S) (hash : Kind) (prefix : Path) (gave : F → 
         called = subst (λ (ps : List Pair). FoldsTo gave requested ps answered) (sym is) called;
         storable = subst (λ (ps : List Pair). All (λ pair. IsStorable pair.1) ps) (sym is)
             (All-from_recursion (λ (p : Pair). IsStorable p.1) (below ++ (it.id, written_tree) ∷ [])
-            (all_storable_snoc below (it.id, written_tree) (emits_below_storable (in_path prefix (map_dirs ds)) (in_path prefix (map_bases ds)) below written_tree going.0 leaving
+            (all_storable_snoc below (it.id, written_tree) (emits_below_storable (in_path prefix (map_dirs ds))
+                (in_path prefix (map_bases ds)) below written_tree going.0 leaving
             (λ at. on.opened.well_formed (prefix ++ at))).0 storable));
         below = below;
         written_tree = written_tree;
@@ -95,7 +97,8 @@ module _ {S F : Type 0} (store : S) (hash : Kind) (prefix : Path) (gave : F → 
       → (it : Written) (below : List Pair) (written_tree : List EntryView) (requested answered : F)
       → Saves (in_path prefix (dirs_of ds)) (in_path prefix (bases_of ds)) below written_tree it.saved → it.trees.items ≡ below ++ (it.id, written_tree) ∷ []
       → FoldsTo gave requested (below ++ (it.id, written_tree) ∷ []) answered → IsStorable written_tree
-      → ((at : Path) → dirs_of ds' at ≡ with_path prefix (only_open written_tree) (dirs_of ds) at) → EditedSo ds ds' → IsWrittenBelow gave requested old old.prefix it
+      → ((at : Path) → dirs_of ds' at ≡ with_path prefix (only_open written_tree) (dirs_of ds) at) → EditedSo ds ds'
+          → IsWrittenBelow gave requested old old.prefix it
       (state_of store hash prefix ds' n) answered
   written_at ds ds' n old view was there it below written_tree requested answered going is called storable remaining edited =
       subst (λ (o : State S). IsWrittenBelow gave requested o o.prefix it (state_of store hash prefix ds' n) answered) view

@@ -93,7 +93,8 @@ abbrev pub KeepsAll : List Pair → Objects → Objects → Type 0
 KeepsAll pairs before after = (after ≡ with_trees pairs before) × All (λ pair. IsEncodableTree pair.1) pairs
 
 -- the effect of a failed write, and its cause: the editor is unchanged
-pub record IsFailedWrite {S E : Type 0} (answers : Answers E) (location : Location) (old : State S) (error : WriteError E)
+pub record IsFailedWrite {S E : Type 0} (answers : Answers E) (location : Location) (old : State S)
+    (error : WriteError E)
     (new : State S) : Type 0 where
   pub cause : IsWriteError (ReturnsTreeId answers) (Denies answers)
       (EmitsSome (dirs_at location (open_dirs old)) (dirs_at location (open_bases old))) tt tt error
@@ -130,7 +131,8 @@ module _ {S E : Type 0} (model : StoreModel S) (answers : Answers E) where
       IsFailedEdit model (λ trees. IsEditErrorAt location (names_of path.items)
       (IsLeafRemovalError (model.objects old.store) (model.may_fail old.store) trees (open_dirs old)
       (path_at location (names_of path.items))) error) old (path_at location (names_of path.items)) error new
-  IsEditReply location old edit.Write (edit_reply.Written it) new = IsWriteKept model (IsWrittenAt answers location it old)
+  IsEditReply location old edit.Write (edit_reply.Written it) new =
+      IsWriteKept model (IsWrittenAt answers location it old)
       (KeepsAll it.trees.items) old new
   IsEditReply location old edit.Write (edit_reply.NotKept it count error) new =
       IsWriteKept model (IsWrittenAt answers location it old)

@@ -39,7 +39,8 @@ module _ {S P : Type 0} (Has : S → List ℕ → P → S → List ℕ → Type 
 
   -- the input begins with pieces that do not satisfy `Is`, and the rest follows in the state after them
   abbrev pub BeginsWithOtherPieces : (P → Type 0) → S → List ℕ → S → List ℕ → Type 0
-  BeginsWithOtherPieces Is before input following rest = (pieces : List P) × BeginsWithPieces before input pieces following rest
+  BeginsWithOtherPieces Is before input following rest =
+      (pieces : List P) × BeginsWithPieces before input pieces following rest
       × HasNone Is pieces
 
   -- the piece follows pieces that do not satisfy `Is`

@@ -109,7 +109,8 @@ is_opened_with_path (name ∷ rest) inner dirs all there within =
 
 pub is_opened_with_only : (prefix : Path) (written_tree : List EntryView) (dirs : Dirs) → IsOpened dirs → dirs prefix ≢ None → IsWellFormed written_tree
     → IsOpened (with_path prefix (only_open written_tree) dirs)
-is_opened_with_only prefix written_tree dirs all there formed = is_opened_with_path prefix (only_open written_tree) dirs all there (is_opened_of_only written_tree formed)
+is_opened_with_only prefix written_tree dirs all there formed = is_opened_with_path prefix (only_open written_tree) dirs all there
+    (is_opened_of_only written_tree formed)
 
 -- at and below the path the directories are the replacement, and elsewhere they are unchanged
 pub with_path_at_prefix : (prefix : Path) (inner dirs : Dirs) (at : Path) → with_path prefix inner dirs (prefix ++ at) ≡ inner at

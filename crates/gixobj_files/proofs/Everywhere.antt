@@ -301,14 +301,16 @@ module _ (P : OfEntry) (trees : Trees) (null : ObjectId) (lasts : Lasts P trees 
   replaced_here : (rest : Path) (written_tree : List EntryView) (dirs : Dirs) (e : EntryView) (base : Option (List EntryView)) → dirs rest ≢ None
       → P e (dirs []) base
       → P e (with_path rest (only_open written_tree) dirs []) (base_edited (dirs []) (with_path rest (only_open written_tree) dirs []) base)
-  replaced_here [] written_tree dirs e base there p = let was = list_at_open_prefix (dirs []) there in stays_open e (dirs []) (Some written_tree) base was.0 written_tree was.1 refl p
+  replaced_here [] written_tree dirs e base there p = let was = list_at_open_prefix (dirs []) there in
+      stays_open e (dirs []) (Some written_tree) base was.0 written_tree was.1 refl p
   replaced_here (name ∷ rest) written_tree dirs e base there p = edited e (dirs []) base p
 
   pub everywhere_written : (prefix : Path) (written_tree : List EntryView) (dirs bases : Dirs) → dirs prefix ≢ None
       → ((e : EntryView) → ContainsEntry written_tree e → P e None None)
       → Everywhere P dirs bases
       → Everywhere P (with_path prefix (only_open written_tree) dirs) (edited_bases dirs (with_path prefix (only_open written_tree) dirs) bases)
-  everywhere_written [] written_tree dirs bases there each all = by_level (only_open written_tree) (edited_bases dirs (only_open written_tree) bases) (λ e h. each e h)
+  everywhere_written [] written_tree dirs bases there each all = by_level (only_open written_tree) (edited_bases dirs (only_open written_tree) bases)
+      (λ e h. each e h)
       (λ first path e h. absurd h)
   everywhere_written (name ∷ rest) written_tree dirs bases there each all =
       let below : Dirs = with_path rest (only_open written_tree) (in_dir name dirs) in

@@ -68,7 +68,8 @@ is_filtered_tree_cons : (e : EntryView) (id : ObjectId) (os es : List EntryView)
 is_filtered_tree_cons e id os es h = elim (is_null id) as (λ b. IsFilteredTree (cond b [] (with_id e id ∷ []) ++ os) (e ∷ es))
     [ true ↦ inl h | false ↦ inr (id, os, refl, h) ]
 
-is_filtered_tree_of_emits : (dirs bases : Dirs) (es : List EntryView) (ps : List Pair) (written_tree : List EntryView) (n : ℕ) → EmitsEntries dirs bases es ps written_tree n
+is_filtered_tree_of_emits : (dirs bases : Dirs) (es : List EntryView) (ps : List Pair) (written_tree : List EntryView) (n : ℕ)
+    → EmitsEntries dirs bases es ps written_tree n
     → IsFilteredTree written_tree es
 is_filtered_tree_of_emits dirs bases es ps written_tree n (end d b) = refl
 is_filtered_tree_of_emits dirs bases es ps written_tree n (unopened d b e rest below os m none walk) =
@@ -84,7 +85,8 @@ some_injective : (xs ys : List EntryView) → Some xs ≡ Some ys → xs ≡ ys
 some_injective xs ys is = cc is
 
 -- the written tree of a directory has some of its entries
-pub is_filtered_tree_of_walk : (dirs bases : Dirs) (ps : List Pair) (written_tree : List EntryView) (n : ℕ) (es : List EntryView) → EmitsBelow dirs bases ps written_tree n
+pub is_filtered_tree_of_walk : (dirs bases : Dirs) (ps : List Pair) (written_tree : List EntryView) (n : ℕ) (es : List EntryView)
+    → EmitsBelow dirs bases ps written_tree n
     → dirs [] ≡ Some es → IsFilteredTree written_tree es
 is_filtered_tree_of_walk dirs bases ps written_tree n es (of_entries d b items below os m is walk) there =
     subst (IsFilteredTree written_tree) (some_injective items es (sym is ∙ there))

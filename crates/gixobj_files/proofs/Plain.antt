@@ -124,7 +124,8 @@ module _ (pairs : List Pair) where
     emits_below_plain dirs bases ps written_tree saved (of_entries d b es below os n is walk) all out =
         walk_plain d b es below os n walk (λ e h. all [] e (subst (λ o. HasAt o e) (sym is) h)) (λ first q. all (first ∷ q)) out
 
-    walk_plain : (dirs bases : Dirs) (es : List EntryView) (ps : List Pair) (written_tree : List EntryView) (saved : ℕ) → EmitsEntries dirs bases es ps written_tree saved
+    walk_plain : (dirs bases : Dirs) (es : List EntryView) (ps : List Pair) (written_tree : List EntryView) (saved : ℕ)
+        → EmitsEntries dirs bases es ps written_tree saved
         → ((e : EntryView) → ContainsEntry es e → IsPlain pairs e (dirs (e.name ∷ [])) (bases (e.name ∷ [])))
         → ((first : List ℕ) → Everywhere (Plain pairs) (in_dir first dirs) (in_dir first bases)) → AllByRecursion (IsEmitted pairs) ps
         → RestsOn pairs written_tree × AllByRecursion (HasBuilt pairs) ps

@@ -28,7 +28,8 @@ pub listed_tree_error_of_content : (input : List ℕ) (error : LooseContentError
     → IsListedTreeError input (content_error error)
 listed_tree_error_of_content input error rejected = listed_tree_error_of_show_error input (content_error error) (show_error_of_content input error rejected)
 
-pub list_error_of_answer : (arguments : List (List ℕ)) (rest rest' : Option (List ℕ)) (may_fail : Type 0) (out out' : SinkView) (cause : Failure) (hash : hash.Kind)
+pub list_error_of_answer : (arguments : List (List ℕ)) (rest rest' : Option (List ℕ)) (may_fail : Type 0)
+    (out out' : SinkView) (cause : Failure) (hash : hash.Kind)
     (input : List ℕ)
     → IsCommandOfHash arguments (codes "tree") hash → ReadsAll rest rest' input → IsListingError hash input cause
     → IsListError arguments rest rest' may_fail out out' cause

@@ -81,13 +81,15 @@ IsListOfInput arguments rest rest' bytes =
 
 -- the list was written
 abbrev pub Listed : List (List ℕ) → Option (List ℕ) → Option (List ℕ) → SinkView → SinkView → Type 0
-Listed arguments rest rest' out out' = (bytes : List ℕ) × IsListOfInput arguments rest rest' bytes × AppendsAll out out' bytes
+Listed arguments rest rest' out out' = (bytes : List ℕ) × IsListOfInput arguments rest rest' bytes
+    × AppendsAll out out' bytes
 
 -- the error of a run; at a failed output a proper prefix of the list was written; out of memory is that of any run
 abbrev pub IsListError : List (List ℕ) → Option (List ℕ) → Option (List ℕ) → Type 0 → SinkView → SinkView → Failure
     → Type 0
 IsListError arguments rest rest' may_fail out out' InputFailed = IsListCommand arguments × may_fail
-IsListError arguments rest rest' may_fail out out' OutputFailed = (bytes : List ℕ) × IsListOfInput arguments rest rest' bytes
+IsListError arguments rest rest' may_fail out out' OutputFailed =
+    (bytes : List ℕ) × IsListOfInput arguments rest rest' bytes
     × AppendsPrefix out out' bytes
 IsListError arguments rest rest' may_fail out out' OutOfMemory = IsListCommand arguments
 IsListError arguments rest rest' may_fail out out' BadHeader = IsListCommand arguments × (input : List ℕ)

@@ -60,7 +60,8 @@ pub yields_none_at_error : (Is : TagTokenView → Type 0) (reader at after : Tag
     → (consumed ≡ Malformed) × ((ending : Ending) × YieldsNone tag_reader_state BeginsWithTagToken Is reader ending)
 yields_none_at_error Is reader at after item consumed error same searches gives err =
     finds_none_is_malformed Is reader consumed
-    (readers.search_errors tag_reader_state BeginsWithTagToken NoTokenAllocates tag_token_view Every remaining_len_le Is reader at after item consumed error same
+    (readers.search_errors tag_reader_state BeginsWithTagToken NoTokenAllocates tag_token_view Every remaining_len_le Is reader at after item consumed error
+        same
     searches
     gives err)
 

@@ -26,7 +26,8 @@ module _ (kind : Kind) (content : List ℕ) where
   goes_on tokens at after token (consumed, same_kind) (has, kept, such) =
       let here = subst (λ (it : Kind). BeginsWithTagToken it (tag_reader_state at).state (tag_reader_state at).bytes (tag_token_view token)
       (tag_reader_state after).state (tag_reader_state after).bytes) same_kind has in (
-        begins_with_one_piece (BeginsWithTagToken kind) state.Target (tag_reader_state at).state (tag_reader_state after).state content (tag_reader_state at).bytes
+        begins_with_one_piece (BeginsWithTagToken kind) state.Target (tag_reader_state at).state (tag_reader_state after).state content
+            (tag_reader_state at).bytes
             (tag_reader_state after).bytes tokens (tag_token_view token) consumed here,
         kept ∙ same_kind,
       )
@@ -36,7 +37,8 @@ module _ (kind : Kind) (content : List ℕ) where
   ends tokens at after (consumed, same_kind) gives =
       let end : YieldsTagTokens kind (tag_reader_state at).state (tag_reader_state at).bytes [] complete =
       rw gives.0 (yields_end (tag_reader_state at).state) in
-      yields_of_begins_with_pieces (BeginsWithTagToken kind) state.Target (tag_reader_state at).state content (tag_reader_state at).bytes tokens complete consumed end
+      yields_of_begins_with_pieces (BeginsWithTagToken kind) state.Target (tag_reader_state at).state content
+          (tag_reader_state at).bytes tokens complete consumed end
 
   malformed_only : (at after : TagRefIter) (error : Error) → NextTagToken at (Some (Err error)) after → NextTagToken at (Some (Err Malformed)) after
   malformed_only at after Malformed gives = gives
@@ -49,4 +51,5 @@ module _ (kind : Kind) (content : List ℕ) where
       let none = subst (λ (it : Kind). HasNoPiece (BeginsWithTagToken it) (tag_reader_state at).state (tag_reader_state at).bytes) same_kind rejected.1 in
       let stop : YieldsTagTokens kind (tag_reader_state at).state (tag_reader_state at).bytes [] broken =
       yields_error (tag_reader_state at).state (tag_reader_state at).bytes rejected.0 none in
-      yields_of_begins_with_pieces (BeginsWithTagToken kind) state.Target (tag_reader_state at).state content (tag_reader_state at).bytes tokens broken consumed stop
+      yields_of_begins_with_pieces (BeginsWithTagToken kind) state.Target (tag_reader_state at).state content
+          (tag_reader_state at).bytes tokens broken consumed stop

@@ -20,7 +20,8 @@ IsReportOfInput arguments rest rest' bytes =
 
 -- the report was written
 abbrev pub Edited : List (List ℕ) → Option (List ℕ) → Option (List ℕ) → SinkView → SinkView → Type 0
-Edited arguments rest rest' out out' = (bytes : List ℕ) × IsReportOfInput arguments rest rest' bytes × AppendsAll out out' bytes
+Edited arguments rest rest' out out' = (bytes : List ℕ) × IsReportOfInput arguments rest rest' bytes
+    × AppendsAll out out' bytes
 
 -- the error of a run: the first bad line of the input; a failed input; a failed output, to which a proper prefix of the
 -- report was written; or out of memory, of any run
@@ -29,7 +30,8 @@ abbrev pub IsEditingError : List (List ℕ) → Option (List ℕ) → Option (Li
 IsEditingError arguments rest rest' may_fail out out' (fault.BadLine number) =
     (hash : hash.Kind) × (bytes : List ℕ) × IsCommandOfHash arguments (codes "edit") hash × ReadsAll rest rest' bytes
     × IsScriptRunError hash bytes (script.BadLine number)
-IsEditingError arguments rest rest' may_fail out out' (fault.Refused failure.InputFailed) = IsEditCommand arguments × may_fail
+IsEditingError arguments rest rest' may_fail out out' (fault.Refused failure.InputFailed) =
+    IsEditCommand arguments × may_fail
 IsEditingError arguments rest rest' may_fail out out' (fault.Refused failure.OutputFailed) =
     (bytes : List ℕ) × IsReportOfInput arguments rest rest' bytes × AppendsPrefix out out' bytes
 IsEditingError arguments rest rest' may_fail out out' (fault.Refused failure.OutOfMemory) = IsEditCommand arguments

@@ -150,7 +150,8 @@ module _ {X : Type 0} (key : X → List ℕ) where
   pub narrowed_none : (xs : List X) (searched : List ℕ) (i : ℕ) → IsNarrowed xs searched i i → IsBinarySearchResult (key_cmp key searched) xs (Err i)
   narrowed_none xs searched i narrowed = λ rising. ((λ k d a b. narrowed.prefix k d b), narrowed.back)
 
-  pub binary_search_none : (xs : List X) → IsAscending key xs → (searched : List ℕ) (i : ℕ) → IsBinarySearchResult (key_cmp key searched) xs (Err i) → (k : ℕ) (d : X)
+  pub binary_search_none : (xs : List X) → IsAscending key xs → (searched : List ℕ) (i : ℕ) → IsBinarySearchResult (key_cmp key searched) xs (Err i)
+      → (k : ℕ) (d : X)
       → k < length xs → key (get_or xs k d) ≢ searched
   binary_search_none xs up searched i is k d low same =
       let split = is (searchable_from_sorted nat_list_cmp_total key xs searched (sorted xs up)) in

@@ -20,7 +20,8 @@ unfolding path_names
 are_names_of_path path = ((split_at_each_exists slash path).0, (split_at_each_exists slash path).1, refl)
 
 pub path_names_unique : (path : List ℕ) (a b : List Name) → AreNamesOf path a → AreNamesOf path b → a ≡ b
-path_names_unique path a b (parts, has_split, is) (others, has_split', is') = is ∙ ap named_parts (split_at_each_unique slash path parts others has_split has_split') ∙ sym is'
+path_names_unique path a b (parts, has_split, is) (others, has_split', is') = is
+    ∙ ap named_parts (split_at_each_unique slash path parts others has_split has_split') ∙ sym is'
 
 -- ---- what precedes the names
 

@@ -23,7 +23,8 @@ pub has_consumed_snoc : (kind : Kind) (content : List ℕ) (entries : List Entry
     → HasConsumedEntries kind content (entries ++ entry_view entry ∷ []) after
 has_consumed_snoc kind content entries at after entry (consumed, same_kind) (has, kept, such) =
     let here = subst (λ (it : Kind). EntryStep it tt (tree_reader_state at).bytes (entry_view entry) tt (tree_reader_state after).bytes) same_kind has in (
-      begins_with_one_piece (EntryStep kind) tt tt tt content (tree_reader_state at).bytes (tree_reader_state after).bytes entries (entry_view entry) consumed here,
+      begins_with_one_piece (EntryStep kind) tt tt tt content (tree_reader_state at).bytes (tree_reader_state after).bytes entries
+          (entry_view entry) consumed here,
       kept
           ∙ same_kind,
     )

@@ -118,7 +118,8 @@ marked_or_not_of_parts bytes position within (inr bad) marked = inr (λ format i
 marked_or_not_of_parts bytes position within (inl starts) (inr none) = inr (λ format it. none format (begins_with_marker_at_position bytes position format it))
 
 marked_or_not : (bytes : List ℕ) (position : ℕ) → position ≤ length bytes → MarkedOrNot bytes position
-marked_or_not bytes position within = marked_or_not_of_parts bytes position within (starts_line_or_not (take position bytes)) (marker_or_none (drop position bytes))
+marked_or_not bytes position within = marked_or_not_of_parts bytes position within (starts_line_or_not (take position bytes))
+    (marker_or_none (drop position bytes))
 
 -- the last marked position before this end, or none
 abbrev LastBefore : List ℕ → ℕ → Type 0

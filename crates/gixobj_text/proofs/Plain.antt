@@ -29,7 +29,8 @@ take_is_break_byte_free bytes position byte test within none =
     let bound : i < position = omega (arith, below, length-take-le position bytes within) in
     none i (omega arith) bound (ap (is_in break_bytes) (sym (get_or-take position bytes i 0 bound) ∙ same) ∙ test))
 
-pub is_from_break_at_position : (bytes : List ℕ) (position : ℕ) → IsFirstByte (is_in break_bytes) bytes (Some position) → IsFromBreak bytes (drop position bytes)
+pub is_from_break_at_position : (bytes : List ℕ) (position : ℕ) → IsFirstByte (is_in break_bytes) bytes (Some position)
+    → IsFromBreak bytes (drop position bytes)
 is_from_break_at_position bytes position (none, here) =
     let within : position ≤ length bytes = omega (arith, none.high) in
     record {

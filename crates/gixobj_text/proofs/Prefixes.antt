@@ -30,7 +30,8 @@ occurs_at_append bytes lines rest joined =
 abbrev HasMarkerPrefix : List ℕ → ℕ → Type 0
 HasMarkerPrefix bytes position = (before : ℕ) × (position ≡ before + 1) × OccursAt bytes marker_prefix before
 
-has_marker_prefix_append : (bytes head rest : List ℕ) (position : ℕ) (format : Format) → bytes ≡ head ++ rest → length head ≡ position → BeginsWithMarker format rest
+has_marker_prefix_append : (bytes head rest : List ℕ) (position : ℕ) (format : Format) → bytes ≡ head ++ rest → length head ≡ position
+    → BeginsWithMarker format rest
     → 0 < position
     → StartsLine head → HasMarkerPrefix bytes position
 has_marker_prefix_append bytes head rest position format joined as_long marked positive (inl empty) = absurd (omega (arith, as_long, ap length empty, positive))
@@ -43,7 +44,8 @@ has_marker_prefix_append bytes head rest position format joined as_long marked p
     ∙ ap (λ (it : List ℕ). lines ++ 10 ∷ it) begun in
     (length lines, omega (arith, as_long, ap length ends, length-append lines (10 ∷ [])), occurs_at_append bytes lines content following)
 
-has_marker_prefix_of_has_marker_at : (bytes : List ℕ) (position : ℕ) (format : Format) → HasMarkerAt bytes position format → 0 < position → HasMarkerPrefix bytes position
+has_marker_prefix_of_has_marker_at : (bytes : List ℕ) (position : ℕ) (format : Format) → HasMarkerAt bytes position format → 0 < position
+    → HasMarkerPrefix bytes position
 has_marker_prefix_of_has_marker_at bytes position format marks positive = has_marker_prefix_append bytes marks.prefix marks.rest position format marks.joined
     marks.as_long marks.marked
     positive

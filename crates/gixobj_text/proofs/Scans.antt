@@ -18,7 +18,8 @@ use Rattle.gixobj_text.proofs.OneLine.{Blank, Filled, Lines, all_snoc, is_last_r
 
 -- ---- one more line
 
-concat_len_snoc : (lines : Lines) (line : List ℕ) (position : ℕ) → position ≡ length (concat lines) → position + length line ≡ length (concat (lines ++ line ∷ []))
+concat_len_snoc : (lines : Lines) (line : List ℕ) (position : ℕ) → position ≡ length (concat lines)
+    → position + length line ≡ length (concat (lines ++ line ∷ []))
 concat_len_snoc lines line position is =
     let joined : length (concat (lines ++ line ∷ [])) ≡ length (concat lines ++ (line ++ [])) = ap length (concat-append lines (line ∷ [])) in
     let first : length (concat lines ++ (line ++ [])) ≡ length (concat lines) + length (line ++ []) = length-append (concat lines) (line ++ []) in

@@ -47,7 +47,8 @@ lines_of_nil content nothing = ap lines_of nothing ∙ lines-nil
 pub is_at_trailer_at_end : (entire content : List ℕ) → HasConsumedAll NoTrailer entire content → content ≡ [] → IsAtTrailer entire content
 is_at_trailer_at_end entire content it nothing = record { consumes = it; begins = subst BeginsTrailer (sym (lines_of_nil content nothing)) tt }
 
-pub is_at_trailer_at_line : (entire content line rest : List ℕ) → HasConsumedAll NoTrailer entire content → IsFirstLine content line rest → is_trailer_line line ≡ true
+pub is_at_trailer_at_line : (entire content line rest : List ℕ) → HasConsumedAll NoTrailer entire content → IsFirstLine content line rest
+    → is_trailer_line line ≡ true
     → IsAtTrailer entire content
 is_at_trailer_at_line entire content line rest it first is = record { consumes = it; begins = subst BeginsTrailer (sym first.lines) is }
 

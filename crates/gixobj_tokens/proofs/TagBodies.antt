@@ -36,7 +36,8 @@ is_parted_after_lines bytes message signature lines rest position format is join
     rw (same_message, same_rest) (signed bytes lines rest format joined here)
 
 -- a marker after nothing, or after lines, begins the signature
-is_parted_of_starts_line : (bytes message signature head rest : List ℕ) (position : ℕ) (format : Format) → IsMarkerPlace bytes position format → (position ≡ 0 → ⊥)
+is_parted_of_starts_line : (bytes message signature head rest : List ℕ) (position : ℕ) (format : Format) → IsMarkerPlace bytes position format
+    → (position ≡ 0 → ⊥)
     → message ≡ take (position - 1) bytes
     → signature ≡ take (length bytes - position) (drop position bytes) → bytes ≡ head ++ rest → length head ≡ position → StartsLine head
     → IsParted bytes message (Some signature)
