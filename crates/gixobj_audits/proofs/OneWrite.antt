@@ -175,10 +175,10 @@ module _ (f : List EntryView → ObjectId) where
       let all = subst (HaveIdsBy f) is by in
       let all' = subst (HaveIdsBy f) is' also in
       let it = below_unique dirs others bases its (record { open_dirs = same_dirs; open_bases = same_bases }) below below' written_tree written_tree' saves.0
-          saves'.0
+      saves'.0
       (ids_of_prefix f below ((id, written_tree) ∷ []) all) (ids_of_prefix f below' ((id', written_tree') ∷ []) all') saves.1 saves'.1 in
       let one : id ≡ id' = (ids_of_suffix f below ((id, written_tree) ∷ []) all).0
-          ∙ (ap f it.tree ∙ sym (ids_of_suffix f below' ((id', written_tree') ∷ []) all').0) in (
+      ∙ (ap f it.tree ∙ sym (ids_of_suffix f below' ((id', written_tree') ∷ []) all').0) in (
         is ∙ (ap (λ es. below ++ (id, es) ∷ []) it.tree ∙ (ap (λ (x : ObjectId). below ++ (x, written_tree') ∷ []) one
             ∙ (ap (λ xs. xs ++ (id', written_tree') ∷ []) it.pairs ∙ sym is'))),
         saves.2 ∙ (ap (λ x. raised 0 x) it.count ∙ sym saves'.2),

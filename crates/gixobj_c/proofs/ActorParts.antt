@@ -29,7 +29,7 @@ email_joined : (line before after : List ℕ) (actor : ActorView) (rest : List �
     → after ≡ actor.email ++ after_email actor.name actor.email actor.time rest line is
 email_joined line before after actor rest is split =
     let parts = split_parts_unique 60 before after is.name_bytes (actor.email ++ after_email actor.name actor.email actor.time rest line is) split.first
-        is.first
+    is.first
     (sym split.joined ∙ line_joined line actor.name actor.email actor.time rest is) in
     parts.1
 

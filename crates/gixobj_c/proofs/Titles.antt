@@ -13,8 +13,11 @@ use Rattle.gixobj_text.specs.Titles.{SplitsTitle, summary_of}
 use Rattle.gixobj_text.specs.declared.commit.message.MessageRef.{MessageRef}
 
 title_prefix : (message title : List ℕ) (body : Option (List ℕ)) → SplitsTitle message title body → BeginsWithPiece message title
-title_prefix message title (Some body) (splits, some) = record { rest = splits.here.first ++ splits.here.second ++ body; joined = splits.here.joined
-    ∙ simp append_assoc }
+title_prefix message title (Some body) (splits, some) = record {
+  rest = splits.here.first ++ splits.here.second ++ body;
+  joined = splits.here.joined
+      ∙ simp append_assoc;
+}
 title_prefix message title None (inl splits) = record { rest = splits.here.first ++ splits.here.second ++ []; joined = splits.here.joined ∙ simp append_assoc }
 title_prefix message title None (inr (same, none)) = record { rest = []; joined = sym same ∙ sym (append-nil title) }
 

@@ -73,14 +73,23 @@ module _ (dirs bases : Dirs) where
   changed_among : (pairs head part back : List Pair) → pairs ≡ head ++ (part ++ back) → (it : Sent) → IsChanged dirs bases part it
       → IsChanged dirs bases pairs it
   changed_among pairs head part back is it changed =
-      record { written_tree = written_tree_among pairs head part back is it.path it.pair.1 changed.written_tree; filled = changed.filled; other =
-          changed.other }
+      record {
+        written_tree = written_tree_among pairs head part back is it.path it.pair.1 changed.written_tree;
+        filled = changed.filled;
+        other =
+            changed.other;
+      }
 
   unchanged_among : (pairs head part back : List Pair) → pairs ≡ head ++ (part ++ back) → (path : Path) → IsUnchanged dirs bases part path
       → IsUnchanged dirs bases pairs path
   unchanged_among pairs head part back is path same =
-      record { tree = same.tree; written_tree = written_tree_among pairs head part back is path same.tree same.written_tree; filled = same.filled; same =
-          same.same }
+      record {
+        tree = same.tree;
+        written_tree = written_tree_among pairs head part back is path same.tree same.written_tree;
+        filled = same.filled;
+        same =
+            same.same;
+      }
 
   sorted_among : (pairs head part back : List Pair) → pairs ≡ head ++ (part ++ back) → (sent : List Sent) (spared : List Path) (path : Path)
       → IsSorted dirs bases part sent spared path → IsSorted dirs bases pairs sent spared path
@@ -161,13 +170,21 @@ module _ (dirs bases : Dirs) (name : List ℕ) where
 
   changed_inside : (part : List Pair) (it : Sent) → IsChanged (in_dir name dirs) (in_dir name bases) part it
       → IsChanged dirs bases part (inside name it)
-  changed_inside part it changed = record { written_tree = written_tree_inside part it.path it.pair.1 changed.written_tree; filled = changed.filled; other =
-      changed.other }
+  changed_inside part it changed = record {
+    written_tree = written_tree_inside part it.path it.pair.1 changed.written_tree;
+    filled = changed.filled;
+    other =
+        changed.other;
+  }
 
   unchanged_inside : (part : List Pair) (path : Path) → IsUnchanged (in_dir name dirs) (in_dir name bases) part path
       → IsUnchanged dirs bases part (name ∷ path)
-  unchanged_inside part path same = record { tree = same.tree; written_tree = written_tree_inside part path same.tree same.written_tree; filled = same.filled;
-      same = same.same }
+  unchanged_inside part path same = record {
+    tree = same.tree;
+    written_tree = written_tree_inside part path same.tree same.written_tree;
+    filled = same.filled;
+    same = same.same;
+  }
 
   sorted_inside : (part : List Pair) (sent : List Sent) (spared : List Path) (path : Path)
       → IsSorted (in_dir name dirs) (in_dir name bases) part sent spared path
@@ -292,8 +309,15 @@ module _ (dirs bases : Dirs) (name : List ℕ) where
 
 written_tree_in_dir : (dirs bases : Dirs) (name : List ℕ) (inner back : List Pair) (written_tree : List EntryView) (count : ℕ)
     → EmitsBelow (in_dir name dirs) (in_dir name bases) inner written_tree count → IsWrittenTree dirs bases (inner ++ back) (name ∷ []) written_tree
-written_tree_in_dir dirs bases name inner back written_tree count it = record { prefix = []; below = inner; back = back; count = count; split = refl; emits =
-    it }
+written_tree_in_dir dirs bases name inner back written_tree count it = record {
+  prefix = [];
+  below = inner;
+  back = back;
+  count = count;
+  split = refl;
+  emits =
+      it;
+}
 
 all_changed_nil : (dirs bases : Dirs) (pairs : List Pair) → All (IsChanged dirs bases pairs) []
 all_changed_nil dirs bases pairs = All-nil (IsChanged dirs bases pairs)

@@ -287,7 +287,7 @@ blocks_before_snoc : (kind : Kind) (lines : List LineView) (content : List ℕ) 
     (line : LineView)
     (next_state : State) (rest : List ℕ)
     → IsBlockLine kind content next after → BeginsWithPieces (BeginsWithLine kind) next after lines before input
-        → BeginsWithLine kind before input line next_state rest
+    → BeginsWithLine kind before input line next_state rest
     → BlocksBefore kind after input → BlocksBefore kind content input
 unfolding BlocksBefore
 blocks_before_snoc kind lines content next after before input line next_state rest (inl (is, (message, same))) begins_with comes blocks =

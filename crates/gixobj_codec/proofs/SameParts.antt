@@ -42,7 +42,7 @@ begins_with_parent_lines kind (hex ∷ hexes) rest lines following end are begin
     let one : IsIdHexOfKind kind hex = All-head P hex hexes are in
     let more = flat_map encode_parent hexes ++ rest in
     let parts : BeginsWithPieces (BeginsWithLine kind) state.Parents (encode_parent hex ++ more)
-        (parent_line hex ∷ (map parent_line hexes ++ lines)) following end = (
+    (parent_line hex ∷ (map parent_line hexes ++ lines)) following end = (
       state.Parents,
       more,
       parent_comes _ hex _ (has_field_of_encode_field (codes "parent") hex more (hex_digits_newline_free hex one.1), one),

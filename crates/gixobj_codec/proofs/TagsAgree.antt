@@ -71,7 +71,7 @@ line_len_le_marker_place byte line rest leading after position format other free
 are_after_line : (byte : ℕ) (line rest : List ℕ) → byte ≢ 45 → IsByteFree 10 (byte ∷ line) → AreAfter ((byte ∷ line) ++ 10 ∷ []) rest
 are_after_line byte line rest other free position format it =
     line_len_le_marker_place byte line rest it.prefix it.rest position format other free (sym (append_assoc (byte ∷ line) (10 ∷ []) rest)
-        ∙ it.joined) it.as_long
+    ∙ it.joined) it.as_long
     it.marked
     it.starts
 

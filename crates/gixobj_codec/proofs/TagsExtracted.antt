@@ -79,7 +79,7 @@ marker_place_eq_payload_len unsigned bytes position format own begins one is =
     } in
     let len_le : length (unsigned ++ 10 ∷ []) ≤ position = is.last (length (unsigned ++ 10 ∷ [])) own here in
     let none : position - length (unsigned ++ 10 ∷ []) ≡ 0 = one _ format
-        (has_marker_at_after_prefix (unsigned ++ 10 ∷ []) bytes position format len_le is.here) in
+    (has_marker_at_after_prefix (unsigned ++ 10 ∷ []) bytes position format len_le is.here) in
     omega (arith, len_le, none)
 
 -- the payload and the signature that are found are the tag's and the signer's

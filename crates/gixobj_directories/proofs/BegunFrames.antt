@@ -148,7 +148,7 @@ module _ (f : Frame) (e : EntryView) (low : f.next < length (held_entries f.tree
     in_step = in_step_after come.in_step filled (f.next + 1) o shares;
     walked = walk_step (dirs_of f.node.now) (bases_of f.node.now) (child_side entries_side next) (child_side base_side next) (held_entries f.tree) f.next e
         ps inner (written_entries f) kept count k low is (dirs_of_entry come.in_step) (bases_of_entry come.in_step) emits come.walked
-            (so_far f.base.now o) written_tree;
+        (so_far f.base.now o) written_tree;
     trees = append_assoc ts (child_leaf_trees next) _ ∙ ap (λ us. ts ++ us) (trees_of_entry come.in_step) ∙ come.trees;
   }
 
@@ -189,7 +189,7 @@ module _ (f : Frame) (e : EntryView) (low : f.next < length (held_entries f.tree
 
   pub lighter_begun : (node : Opened) → IsBegun next node
       → frame_weight (record { node = f.node; base = f.base; tree = f.tree; next = f.next; remaining = r; written_tree = f.written_tree }) + weight_of node ≤
-          frame_weight f
+      frame_weight f
   lighter_begun node begun = omega (
     arith,
     weight_of_entry,
@@ -230,7 +230,7 @@ module _ (old done : Frame) (e : EntryView) (is : e ≡ get_or (held_entries old
 
   pub has_resumed : (o : WrittenTree) → so_far old.base.now o ≡ written_entries old ++ kept → SharesBase old.base.now o
       → HasResumed old done (record { node = old.node; base = old.base; tree = old.tree; next = old.next + 1; remaining = old.remaining; written_tree = o })
-          more k
+      more k
   has_resumed o written_tree shares = λ ps qs ts us count n waits come. record {
     in_step = record {
       root = waits.in_step.root;
@@ -258,7 +258,7 @@ module _ (old done : Frame) (e : EntryView) (is : e ≡ get_or (held_entries old
           count + ((n + k) + rest.2),
           of_entries (dirs_of old.node.now) (bases_of old.node.now) (held_entries old.tree) _ _ _ waits.in_step.root
               (subst (λ x. EmitsEntries (dirs_of old.node.now) (bases_of old.node.now) (held_entries old.tree) (ps ++ x)
-                  (written_entries old ++ (kept ++ rest.1))
+              (written_entries old ++ (kept ++ rest.1))
               (count + ((n + k) + rest.2))) (append_assoc qs more rest.0)
               (walk_goes (dirs_of old.node.now) (bases_of old.node.now) (dirs_of done.node.now) (bases_of done.node.now) (held_entries old.tree) old.next e
               ps (qs ++ more) (written_entries old) kept count (n + k) waits.low is

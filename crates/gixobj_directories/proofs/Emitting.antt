@@ -324,19 +324,19 @@ module _ (dirs bases inside based : Dirs) (items : List EntryView) (i : ℕ) (e 
   walk_goes qs written_tree n walk =
       let here : drop i items ≡ e ∷ drop (i + 1) items = rw add-one (drop-cons items i e low ∙ ap (λ x. x ∷ drop (suc i) items) (sym is)) in
       so_far (inner ++ qs) (kept ++ written_tree) (saved + n) (subst (λ es. EmitsEntries dirs bases es (inner ++ qs) (kept ++ written_tree) (saved + n))
-          (sym here)
+      (sym here)
       (seen dirs bases same base (drop (i + 1) items) qs written_tree n walk))
 
   pub walk_step : (next : List EntryView) → next ≡ acc ++ kept → (qs : List Pair) (written_tree : List EntryView) (n : ℕ)
       → EmitsEntries dirs bases (drop (i + 1) items) qs written_tree n → EmitsEntries dirs bases items ((ps ++ inner) ++ qs) (next ++ written_tree)
-          (count + saved + n)
+      (count + saved + n)
   walk_step next is_next qs written_tree n walk = walks_of_count (count + (saved + n)) (count + saved + n) (omega arith)
       (rw (is_next, append_assoc, append_assoc) (walk_goes qs written_tree n walk))
 
 -- the end of a walk
 pub walks_at_end : (dirs bases : Dirs) (items : List EntryView) (i : ℕ) (ps : List Pair) (acc : List EntryView) (count : ℕ) → length items ≤ i
     → ((qs : List Pair) (written_tree : List EntryView) (n : ℕ) → EmitsEntries dirs bases (drop i items) qs written_tree n
-        → EmitsEntries dirs bases items (ps ++ qs) (acc ++ written_tree)
+    → EmitsEntries dirs bases items (ps ++ qs) (acc ++ written_tree)
     (count + n))
     → EmitsEntries dirs bases items ps acc count
 walks_at_end dirs bases items i ps acc count high so_far =
@@ -348,8 +348,10 @@ walks_at_end dirs bases items i ps acc count high so_far =
 pub emits_some_append : (dirs bases : Dirs) (below : List Pair) (written_tree : List EntryView) (saved : ℕ) → EmitsBelow dirs bases below written_tree saved
     → (more : List Pair)
     × EmitsSome dirs bases (below ++ more)
-emits_some_append dirs bases below written_tree saved found = ((Sha1 [], written_tree) ∷ [],
-    (raised 0 saved, (below, Sha1 [], written_tree, (saved, found, refl), refl)))
+emits_some_append dirs bases below written_tree saved found = (
+  (Sha1 [], written_tree) ∷ [],
+  (raised 0 saved, (below, Sha1 [], written_tree, (saved, found, refl), refl)),
+)
 
 -- a write that stops does so in equal open directories
 pub stopped_of_same_dirs : {F E : Type 0} (gave : F → Pair → F → Type 0) (rejected : F → List EntryView → E → F → Type 0) (dirs dirs' bases bases' : Dirs)

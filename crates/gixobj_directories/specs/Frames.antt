@@ -62,7 +62,7 @@ abbrev pub HasWalked : Frame → List Pair → ℕ → Type 0
 HasWalked f ps count = (qs : List Pair) (written_tree : List EntryView) (n : ℕ)
     → EmitsEntries (dirs_of f.node.now) (bases_of f.node.now) (remaining_entries f) qs written_tree n
     → EmitsEntries (dirs_of f.node.now) (bases_of f.node.now) (held_entries f.tree) (ps ++ qs)
-        (written_entries f ++ written_tree)
+    (written_entries f ++ written_tree)
     (count + n)
 
 -- what came of a frame: these pairs, leaf trees, and this number of unchanged directories
@@ -102,7 +102,7 @@ HasStepped step.Ends old new qs us = (ps : List Pair) (ts : List (List EntryView
 abbrev pub EmitsNext : Frame → List Pair → Type 0
 EmitsNext f qs = (ps : List Pair) (ts : List (List EntryView)) (count : ℕ) → HasCome f ps ts count
     → (written_tree : List EntryView) × (n : ℕ) × EmitsBelow (dirs_of f.node.now) (bases_of f.node.now)
-        (ps ++ qs) written_tree n
+    (ps ++ qs) written_tree n
 
 -- the weight of open directories: two for each, and one for each entry
 abbrev pub weight_of : Opened → ℕ

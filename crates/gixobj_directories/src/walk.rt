@@ -76,7 +76,11 @@ pub(crate) fn emit_below<E, F: FnMut(&Tree) -> Result<ObjectId, E>>(
             }
             Step::Ends => {
                 let Some(mut parent) = above.pop() else {
-                    let Frame { base, written_tree, .. } = frame;
+                    let Frame {
+                        base,
+                        written_tree,
+                        ..
+                    } = frame;
                     let tree = written_tree.into_tree(alloc, base)?;
                     return Ok(tree);
                 };
@@ -132,7 +136,14 @@ fn advance<'a, E, F: FnMut(&Tree) -> Result<ObjectId, E>>(
         Visit::Begins(inner) => return Ok(Step::Begins(inner)),
         Visit::Id(id) => Some(id),
     };
-    append_unless_null(alloc, &mut frame.written_tree, frame.base, entry, id, entries.len())?;
+    append_unless_null(
+        alloc,
+        &mut frame.written_tree,
+        frame.base,
+        entry,
+        id,
+        entries.len(),
+    )?;
     frame.next += 1;
     Ok(Step::Visited)
 }
@@ -194,7 +205,11 @@ fn resume<E, F: FnMut(&Tree) -> Result<ObjectId, E>>(
 {
     let entries = parent.tree.entries();
     let entry = &entries[parent.next];
-    let Frame { base, written_tree, .. } = done;
+    let Frame {
+        base,
+        written_tree,
+        ..
+    } = done;
     let id = written_id(alloc, entry, written_tree, base, out, pairs, saved)?;
     append_unless_null(
         alloc,

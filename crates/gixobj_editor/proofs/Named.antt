@@ -196,7 +196,7 @@ module _ {S E : Type 0} (model : StoreModel S) (answers : Answers E) where
     edits_based location old new [] [] h agrees has = unmoved old new h has
     edits_based location old new (it ∷ edits) (r ∷ replies) (between, first, rest) agrees has =
         edits_based location between new edits replies rest (agrees_throughout_suffix T (kept_of_edit r) (flat_map kept_of_edit replies)
-            (model.objects old.store)
+        (model.objects old.store)
         (model.objects between.store) (edit_keeps location old between it r first) agrees)
         (edit_based location old between it r first (agrees zero) has)
     edits_based location old new [] (r ∷ replies) h agrees has = absurd h

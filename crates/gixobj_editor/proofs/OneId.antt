@@ -169,8 +169,11 @@ module _ {S E : Type 0} (model : StoreModel S) (answers : Answers E) where
 
   written_pair_is_last : (ps below : List Pair) (written : Written) (written_tree : List EntryView) → ps ≡ below ++ (written.id, written_tree) ∷ []
       → HasWrittenPair ps written
-  written_pair_is_last ps below written written_tree is = (written_tree, subst (λ (l : List Pair). Contains l (written.id, written_tree)) (sym is)
-      (Contains-push below (written.id, written_tree)))
+  written_pair_is_last ps below written written_tree is = (
+    written_tree,
+    subst (λ (l : List Pair). Contains l (written.id, written_tree)) (sym is)
+        (Contains-push below (written.id, written_tree)),
+  )
 
   has_written_pair_of_append : (w written : Written) (ps : List Pair) → Some w ≡ Some written → HasWrittenPair ps w → HasWrittenPair ps written
   has_written_pair_of_append w written ps is written_tree = let same : w ≡ written = cc is in subst (λ (it : Written). HasWrittenPair ps it) same written_tree

@@ -168,7 +168,7 @@ module _ (T : Table) (pairs : List Pair) (known : AgreesWithPairs T pairs) where
       let mine = all_right (IsEmitted pairs) below ((id, written_tree) ∷ []) out in
       let it = emits_below_plain pairs (in_path prefix (open_dirs old)) (in_path prefix (open_bases old)) below written_tree saved going
       (everywhere_in_path (Plain pairs) prefix (open_dirs old) (open_bases old) holds.1)
-          (all_remaining (IsEmitted pairs) below ((id, written_tree) ∷ []) out) in
+      (all_remaining (IsEmitted pairs) below ((id, written_tree) ∷ []) out) in
       let made : Dirs = with_path prefix (only_open written_tree) (open_dirs old) in (
         carried made (edited_bases (open_dirs old) made (open_bases old)) (open_dirs new) (open_bases new) dirs_are
             (subst (λ (d : Dirs). (at : Path) → open_bases new at ≡ edited_bases (open_dirs old) d (open_bases old) at) (λ i at. dirs_are at i) bases_are)

@@ -74,7 +74,7 @@ module _ {S F : Type 0} (store : S) (hash : Kind) (prefix : Path) (gave : F → 
         storable = subst (λ (ps : List Pair). All (λ pair. IsStorable pair.1) ps) (sym is)
             (All-from_recursion (λ (p : Pair). IsStorable p.1) (below ++ (it.id, written_tree) ∷ [])
             (all_storable_snoc below (it.id, written_tree) (emits_below_storable (in_path prefix (map_dirs ds))
-                (in_path prefix (map_bases ds)) below written_tree going.0 leaving
+            (in_path prefix (map_bases ds)) below written_tree going.0 leaving
             (λ at. on.opened.well_formed (prefix ++ at))).0 storable));
         below = below;
         written_tree = written_tree;
@@ -98,7 +98,7 @@ module _ {S F : Type 0} (store : S) (hash : Kind) (prefix : Path) (gave : F → 
       → Saves (in_path prefix (dirs_of ds)) (in_path prefix (bases_of ds)) below written_tree it.saved → it.trees.items ≡ below ++ (it.id, written_tree) ∷ []
       → FoldsTo gave requested (below ++ (it.id, written_tree) ∷ []) answered → IsStorable written_tree
       → ((at : Path) → dirs_of ds' at ≡ with_path prefix (only_open written_tree) (dirs_of ds) at) → EditedSo ds ds'
-          → IsWrittenBelow gave requested old old.prefix it
+      → IsWrittenBelow gave requested old old.prefix it
       (state_of store hash prefix ds' n) answered
   written_at ds ds' n old view was there it below written_tree requested answered going is called storable remaining edited =
       subst (λ (o : State S). IsWrittenBelow gave requested o o.prefix it (state_of store hash prefix ds' n) answered) view

@@ -37,7 +37,7 @@ module _ {S F : Type 0} (store : S) (hash : Kind) (prefix : Path) (gave : F → 
       → IsWrittenEditor gave requested (state_of store hash prefix ds n) it (state_of store hash prefix (opened written_tree base []) n) answered
   emits_written ds n was it below written_tree base requested answered going is called storable remaining =
       let there : EmitsBelow (map_dirs ds) (map_bases ds) below written_tree going.0 =
-          subst (λ (b : Dirs). EmitsBelow (map_dirs ds) b below written_tree going.0)
+      subst (λ (b : Dirs). EmitsBelow (map_dirs ds) b below written_tree going.0)
       (sym (map_bases_eq ds)) (subst (λ (d : Dirs). EmitsBelow d (bases_of ds) below written_tree going.0) (sym (map_dirs_eq ds)) going.1) in
       let on = map_is_opened_on ds was in
       let known : (T : Table) → AgreesWithPairs T it.trees.items → AllByRecursion (λ p. T.tree_at p.0 ≡ Some p.1) (below ++ (it.id, written_tree) ∷ []) =
@@ -48,7 +48,7 @@ module _ {S F : Type 0} (store : S) (hash : Kind) (prefix : Path) (gave : F → 
       λ T k agrees has. emits_below_files T (map_dirs ds) (map_bases ds) below written_tree going.0 there (are_trees_of_opened (map_dirs ds) on.opened)
       (everywhere_based T (map_dirs ds) (map_bases ds) on.null_based has) (known_append_left T below ((it.id, written_tree) ∷ []) (known T agrees)) k in
       let new_is : (at : Path) → map_dirs (opened written_tree base []) at ≡ only_open written_tree at = λ at. map_dirs_at (opened written_tree base []) at
-          ∙ ap (λ (d : Dirs). d at)
+      ∙ ap (λ (d : Dirs). d at)
       (dirs_of_childless written_tree) in
       record {
         emitted = (below, it.id, written_tree, (going.0, there, going.2), is);
@@ -56,7 +56,7 @@ module _ {S F : Type 0} (store : S) (hash : Kind) (prefix : Path) (gave : F → 
         storable = subst (λ (ps : List Pair). All (λ pair. IsStorable pair.1) ps) (sym is)
             (All-from_recursion (λ (p : Pair). IsStorable p.1) (below ++ (it.id, written_tree) ∷ [])
             (all_storable_snoc below (it.id, written_tree) (emits_below_storable (map_dirs ds)
-                (map_bases ds) below written_tree going.0 there on.opened.well_formed).0
+            (map_bases ds) below written_tree going.0 there on.opened.well_formed).0
             storable));
         below = below;
         written_tree = written_tree;
@@ -74,9 +74,9 @@ module _ {S F : Type 0} (store : S) (hash : Kind) (prefix : Path) (gave : F → 
 
   pub written_at : (ds ds' : Opened) (n : ℕ) (old : State S) → state_of store hash prefix ds n ≡ old → OpenedOn ds
       → (it : Written) (below : List Pair) (written_tree base : List EntryView) (requested answered : F)
-          → Saves (dirs_of ds) (bases_of ds) below written_tree it.saved
+      → Saves (dirs_of ds) (bases_of ds) below written_tree it.saved
       → it.trees.items ≡ below ++ (it.id, written_tree) ∷ [] → FoldsTo gave requested (below ++ (it.id, written_tree) ∷ []) answered → IsStorable written_tree
-          → ds' ≡ opened written_tree base []
+      → ds' ≡ opened written_tree base []
       → EditedSo ds ds' → IsWrittenEditor gave requested old it (state_of store hash prefix ds' n) answered
   written_at ds ds' n old view was it below written_tree base requested answered going is called storable remaining edited =
       subst (λ (o : State S). IsWrittenEditor gave requested o it (state_of store hash prefix ds' n) answered) view

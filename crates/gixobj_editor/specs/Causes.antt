@@ -30,7 +30,7 @@ module _ {S E : Type 0} (model : StoreModel S) (errors : KeepErrors S) (answers 
   HaveEditCauses location old [] [] new = new ≡ old
   HaveEditCauses location old (it ∷ edits) (its_reply ∷ replies) new = (between : State S)
       × IsEditReply model answers location old it its_reply between
-          × HasKeepCause model.objects errors old.store its_reply
+      × HasKeepCause model.objects errors old.store its_reply
       × HaveEditCauses location between edits replies new
   HaveEditCauses location old edits replies new = ⊥
 

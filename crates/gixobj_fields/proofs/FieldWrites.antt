@@ -112,8 +112,12 @@ nil_of_zero_length [] none = refl
 nil_of_zero_length (byte ∷ after) none = absurd (let none' : suc (length after) ≡ 0 = eqb-true (suc (length after)) 0 none in omega (arith, none'))
 
 pub is_last_line_of_split : (value line after : List ℕ) → SplitsAt 10 value line after → (length after == 0) ≡ true → IsLastLine value
-is_last_line_of_split value line after split none = inr (line, split.joined
-    ∙ ap (λ (it : List ℕ). line ++ 10 ∷ it) (nil_of_zero_length after none), split.first)
+is_last_line_of_split value line after split none = inr (
+  line,
+  split.joined
+      ∙ ap (λ (it : List ℕ). line ++ 10 ∷ it) (nil_of_zero_length after none),
+  split.first,
+)
 
 pub folded_prefix_append : (value prefix rest line after : List ℕ) → folded value ≡ prefix ++ folded rest → folded rest ≡ line ++ 10 ∷ 32 ∷ folded after
     → folded value ≡ (prefix ++ (line ++ 10 ∷ 32 ∷ [])) ++ folded after

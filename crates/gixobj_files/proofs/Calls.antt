@@ -176,14 +176,14 @@ no_trees = λ id. None
 
 module _ (old bases new remaining : Dirs) (was : AreOpenedOn old bases) (prefix : Path) (written_tree : List EntryView) (there : old prefix ≢ None)
     (dirs_are : (at : Path) → new at ≡ with_path prefix (only_open written_tree) old at) (bases_are : (at : Path)
-        → remaining at ≡ edited_bases old new bases at) where
+    → remaining at ≡ edited_bases old new bases at) where
   pub written_based : (T : Table) → HasBases T old bases → HasBases T new remaining
   written_based T has =
       let lasting : Lasts (Based T) no_trees (null_id hash.Sha1) = based_is_lasting T no_trees (null_id hash.Sha1)
       (λ id entries searched is. absurd (cc is)) refl in
       has_bases_of_everywhere T new remaining
       (after_write (Based T) no_trees hash.Sha1 lasting old bases new remaining was.opened
-          (everywhere_based T old bases was.null_based has) prefix written_tree there
+      (everywhere_based T old bases was.null_based has) prefix written_tree there
       (λ e h list is. absurd (cc is)) dirs_are bases_are)
 
   pub written_null_based : AreNullBased new remaining

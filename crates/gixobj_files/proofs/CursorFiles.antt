@@ -39,7 +39,7 @@ written_tree_files_at_prefix T prefix dirs bases below written_tree saved id all
     (are_trees_of_opened (in_path prefix dirs) (is_opened_in_path prefix dirs all there))
     (everywhere_in_path (Based T) prefix dirs bases based)
     (known_append_left T below ((id, written_tree) ∷ []) (recursion_from_All (λ (p : Pair). T.tree_at p.0 ≡ Some p.1)
-        (below ++ (id, written_tree) ∷ []) agrees))
+    (below ++ (id, written_tree) ∷ []) agrees))
 
 -- the id of a written directory names the files below its path
 pub written_id_files_below_prefix : (T : Table) (n : ℕ) (prefix : Path) (dirs bases : Dirs) (below : List Pair) (written_tree : List EntryView)
@@ -51,7 +51,7 @@ written_id_files_below_prefix T n prefix dirs bases below written_tree saved id 
     let inner : Dirs = in_path prefix dirs in
     let named : T.tree_at id ≡ Some written_tree =
     (known_append_right T below ((id, written_tree) ∷ []) (recursion_from_All (λ (p : Pair). T.tree_at p.0 ≡ Some p.1)
-        (below ++ (id, written_tree) ∷ []) agrees)).0 in
+    (below ++ (id, written_tree) ∷ []) agrees)).0 in
     let files : SameFiles (NamedFiles T n id) (OpenFiles T n inner) =
     subst (λ (o : Option (List EntryView)). SameFiles (λ path mode it. MatchOption o ⊥ (λ es. Files T n es path mode it)) (OpenFiles T n inner)) (sym named)
     (written_tree_files_at_prefix T prefix dirs bases below written_tree saved id all based there going agrees n) in

@@ -33,14 +33,14 @@ mutual
         (written_tree : List EntryView) (inside saved : ℕ)
         → EmitsBelow (in_dir e.name dirs) (in_dir e.name bases) inner [] inside
         → EmitsEntries dirs bases entries below written_tree saved
-            → EmitsEntries dirs bases (e ∷ entries) (inner ++ below) written_tree
+        → EmitsEntries dirs bases (e ∷ entries) (inner ++ below) written_tree
         (inside + saved)
     unchanged : (dirs bases : Dirs) (e first : EntryView) (entries rest : List EntryView) (inner below : List Pair)
         (written_tree : List EntryView) (inside saved : ℕ)
         → EmitsBelow (in_dir e.name dirs) (in_dir e.name bases) inner (first ∷ rest) inside
         → bases (e.name ∷ []) ≡ Some (first ∷ rest)
         → EmitsEntries dirs bases entries below written_tree saved
-            → EmitsEntries dirs bases (e ∷ entries) (inner ++ below)
+        → EmitsEntries dirs bases (e ∷ entries) (inner ++ below)
         (entry_unless_null e e.id ++ written_tree) (inside + 1 + saved)
     written : (dirs bases : Dirs) (e first : EntryView) (entries rest : List EntryView) (inner below : List Pair)
         (written_tree : List EntryView) (inside saved : ℕ) (id : ObjectId)
@@ -48,7 +48,7 @@ mutual
         → bases (e.name ∷ []) ≢ Some (first ∷ rest)
         → EmitsEntries dirs bases entries below written_tree saved
         → EmitsEntries dirs bases (e ∷ entries) (inner ++ (id, first ∷ rest) ∷ below)
-            (entry_unless_null e id ++ written_tree)
+        (entry_unless_null e id ++ written_tree)
         (inside + saved)
 
 -- the pairs below a directory, its written tree, and the number of unchanged directories, which saturates at the

@@ -88,7 +88,7 @@ pub loose_header_unique : (input : List ℕ) (kind : Kind) (size used : ℕ) (ot
 loose_header_unique input kind size used other size' used' first second =
     let same = parts_unique input kind size used first other (second.size_bytes ++ 0 ∷ second.rest) second.joined in
     let same_parts = split_parts_unique 0 second.size_bytes second.rest first.size_bytes first.rest
-        (size_bytes_zero_free second.size_bytes size' second.decodes)
+    (size_bytes_zero_free second.size_bytes size' second.decodes)
     (size_bytes_zero_free first.size_bytes size first.decodes) same.1 in (
       same.0,
       cc (first.decodes.value, second.decodes.value, same_parts.0),
@@ -106,7 +106,7 @@ no_size_fault_of_parts : (input : List ℕ) (kind : Kind) (size used : ℕ) (siz
 no_size_fault_of_parts input kind size used size_bytes fault parts faulty =
     let same = parts_unique input kind size used parts faulty.0 faulty.1 faulty.3 in
     let same_parts = split_parts_unique 0 size_bytes faulty.2 parts.size_bytes parts.rest faulty.4.first
-        (size_bytes_zero_free parts.size_bytes size parts.decodes)
+    (size_bytes_zero_free parts.size_bytes size parts.decodes)
     (sym faulty.4.joined ∙ same.1) in
     no_size_fault_of_digits parts.size_bytes size fault parts.decodes (let P : List ℕ → Type 0 = λ it. HasSizeFault it fault in subst P same_parts.0 faulty.5)
 

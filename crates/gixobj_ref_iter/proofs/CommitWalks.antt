@@ -39,7 +39,7 @@ module _ (kind : Kind) (content : List ℕ) where
       let end : YieldsCommitTokens kind (commit_reader_state at).state (commit_reader_state at).bytes [] complete =
       rw gives.0 (yields_end (commit_reader_state at).state) in
       yields_of_begins_with_pieces (BeginsWithCommitToken kind) state.Tree (commit_reader_state at).state content
-          (commit_reader_state at).bytes tokens complete consumed end
+      (commit_reader_state at).bytes tokens complete consumed end
 
   pub stops : (tokens : List CommitTokenView) (at after : CommitRefIter) → HasConsumedCommitTokens kind content tokens at
       → NextCommitToken at (Some (Err Malformed)) after → YieldsCommitTokens kind state.Tree content tokens broken
@@ -48,4 +48,4 @@ module _ (kind : Kind) (content : List ℕ) where
       let stop : YieldsCommitTokens kind (commit_reader_state at).state (commit_reader_state at).bytes [] broken =
       yields_error (commit_reader_state at).state (commit_reader_state at).bytes gives.0 none in
       yields_of_begins_with_pieces (BeginsWithCommitToken kind) state.Tree (commit_reader_state at).state content
-          (commit_reader_state at).bytes tokens broken consumed stop
+      (commit_reader_state at).bytes tokens broken consumed stop

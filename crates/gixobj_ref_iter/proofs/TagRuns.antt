@@ -61,7 +61,7 @@ pub yields_none_at_error : (Is : TagTokenView → Type 0) (reader at after : Tag
 yields_none_at_error Is reader at after item consumed error same searches gives err =
     finds_none_is_malformed Is reader consumed
     (readers.search_errors tag_reader_state BeginsWithTagToken NoTokenAllocates tag_token_view Every remaining_len_le Is reader at after item consumed error
-        same
+    same
     searches
     gives err)
 

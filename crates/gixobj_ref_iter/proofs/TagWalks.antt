@@ -38,7 +38,7 @@ module _ (kind : Kind) (content : List ℕ) where
       let end : YieldsTagTokens kind (tag_reader_state at).state (tag_reader_state at).bytes [] complete =
       rw gives.0 (yields_end (tag_reader_state at).state) in
       yields_of_begins_with_pieces (BeginsWithTagToken kind) state.Target (tag_reader_state at).state content
-          (tag_reader_state at).bytes tokens complete consumed end
+      (tag_reader_state at).bytes tokens complete consumed end
 
   malformed_only : (at after : TagRefIter) (error : Error) → NextTagToken at (Some (Err error)) after → NextTagToken at (Some (Err Malformed)) after
   malformed_only at after Malformed gives = gives
@@ -52,4 +52,4 @@ module _ (kind : Kind) (content : List ℕ) where
       let stop : YieldsTagTokens kind (tag_reader_state at).state (tag_reader_state at).bytes [] broken =
       yields_error (tag_reader_state at).state (tag_reader_state at).bytes rejected.0 none in
       yields_of_begins_with_pieces (BeginsWithTagToken kind) state.Target (tag_reader_state at).state content
-          (tag_reader_state at).bytes tokens broken consumed stop
+      (tag_reader_state at).bytes tokens broken consumed stop

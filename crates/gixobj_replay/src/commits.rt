@@ -11,7 +11,7 @@ use gixobj_codec::commit::ref_iter::Token;
 use gixobj_codec::{Commit, CommitRef, CommitRefIter};
 use gixobj_recorded::actors::{add_time, write_actor, write_actor_or_fault, write_owned_actor};
 use gixobj_recorded::answer::{Answer, Form, Prefix};
-use gixobj_recorded::fields::{split_at_first, fault, kind_and_bytes};
+use gixobj_recorded::fields::{fault, kind_and_bytes, split_at_first};
 use gixobj_recorded::objects::{write_encoding, write_sizes};
 
 /// Answers with a decoded commit, its encoding and its owned form.

@@ -9,7 +9,7 @@ use gixobj_base::parse::{any_header_field, header_field, hex_hash, signature};
 use gixobj_base::tree::{EntryKind, EntryMode, name_order};
 use gixobj_base::{compute_hash, encode};
 use gixobj_recorded::answer::Answer;
-use gixobj_recorded::fields::{split_at_first, fault, kind_of_ids};
+use gixobj_recorded::fields::{fault, kind_of_ids, split_at_first};
 
 /// Answers with the mode that `EntryMode::from_bytes` decodes.
 pub(crate) fn mode_answer(question: &[u8], answer: &mut Answer) {

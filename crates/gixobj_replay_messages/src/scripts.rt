@@ -9,7 +9,7 @@ use gixobj_editor::{Command, Edit, EditReply, Reply, run};
 use gixobj_keep::Memory;
 use gixobj_keep::find::existing_object;
 use gixobj_recorded::answer::Answer;
-use gixobj_recorded::fields::{bytes_of, split_at_first, kind_of_ids};
+use gixobj_recorded::fields::{bytes_of, kind_of_ids, split_at_first};
 use gixobj_script::{ScriptError, edit, parse_script, report_lines};
 
 /// Answers with the output of a script on the empty root, over an empty store. The question is the kind of

@@ -7,7 +7,7 @@ use gixobj_base::parse::split_at_byte;
 use gixobj_base::{OutOfMemory, WriteTo, hash};
 use gixobj_codec::{CommitRef, CommitRefIter, TagRef, TagRefIter};
 use gixobj_recorded::answer::{Answer, Form};
-use gixobj_recorded::fields::{split_at_first, fault, kind_of_ids};
+use gixobj_recorded::fields::{fault, kind_of_ids, split_at_first};
 use gixobj_recorded::objects::encoded;
 use gixobj_signature::signature::verify::{
     self, Outcome, TrustLevel, parse_gpg_output, parse_ssh_output,

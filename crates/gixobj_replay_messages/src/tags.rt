@@ -13,7 +13,7 @@ use gixobj_codec::{TagRef, TagRefIter};
 use gixobj_recorded::actors::{add_actor, write_actor, write_owned_actor};
 use gixobj_recorded::answer::{Answer, Form, Prefix};
 use gixobj_recorded::fields::{
-    bytes_and_kind, split_at_first, fault, kind_and_bytes, name_fault, outcome_keyword, yes_or_no,
+    bytes_and_kind, fault, kind_and_bytes, name_fault, outcome_keyword, split_at_first, yes_or_no,
 };
 use gixobj_recorded::objects::{encoded, write_encoding, write_sizes};
 

@@ -72,7 +72,7 @@ revocation_arguments (Some path) = plain (codes "-r") ∷ plain path ∷ []
 unfoldable pub principal_call : ProgramView → SshView → List ℕ → List ℕ → List ℕ → CallView
 principal_call it ssh signature signed principal =
     full_call (in_english it) (principal_arguments it ssh principal ++ revocation_arguments ssh.revoked)
-        (signature ∷ [])
+    (signature ∷ [])
     (Some signed)
 
 -- the arguments of a check of the signature for any key (ssh-keygen(1), "-Y check-novalidate")

@@ -92,9 +92,15 @@ not_comes_of_has_none kind input name seen [] ending e (yields_piece _ _ _ follo
 not_comes_of_has_none kind input name seen (x ∷ consumed) ending e (yields_piece _ _ _ following y more _ first' seen') lacks
     (here, rest, (_, after, first, on), has, none, is) =
     let same_rest = (entry_unique kind input x y after following first first').1 in
-    not_comes_of_has_none kind following name more consumed ending e seen' (has_none_named_tail name y more lacks)
-    (here, rest, subst (λ (at : List ℕ). runs.BeginsWithPieces (EntryStep kind) tt at consumed tt here) same_rest on, has, has_none_named_tail name x consumed
-        none, is)
+    not_comes_of_has_none kind following name more consumed ending e seen' (has_none_named_tail name y more lacks) (
+      here,
+      rest,
+      subst (λ (at : List ℕ). runs.BeginsWithPieces (EntryStep kind) tt at consumed tt here) same_rest on,
+      has,
+      has_none_named_tail name x consumed
+          none,
+      is,
+    )
 
 pub no_entry_named_of_search : (kind : hash.Kind) (input : List ℕ) (name : Name) (ending : Ending)
     → runs.YieldsNone (EntryStep kind) (IsNamed name) tt input ending

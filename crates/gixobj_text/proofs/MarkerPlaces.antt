@@ -59,7 +59,7 @@ no_marker_and_marker_place bytes a f is none = none a f is.here
 -- the parts at the position
 pub marker_place_splits : (bytes : List ℕ) (position : ℕ) (f : Format) → IsMarkerPlace bytes position f
     → (bytes ≡ take position bytes ++ drop position bytes) × StartsLine (take position bytes) × BeginsWithMarker f (drop position bytes)
-        × (position ≤ length bytes)
+    × (position ≤ length bytes)
 marker_place_splits bytes position f is = (
   sym (take-append-drop position bytes),
   starts_line_at_marker bytes position f is.here,

@@ -59,9 +59,11 @@ module _ (kind : Kind) (name content : List ℕ) (here : State) (rest : List ℕ
 
   pub ended : rest ≡ [] → runs.YieldsNone (BeginsWithLine kind) (IsNamedLine name) state.Tree content complete
   ended none =
-      let yields : Yields (BeginsWithLine kind) here rest [] complete = rw none (yields_end here) in
-      (begins_with.0, yields_of_begins_with_pieces (BeginsWithLine kind) state.Tree here content rest begins_with.0 complete begins_with.1 yields,
-          begins_with.2)
+      let yields : Yields (BeginsWithLine kind) here rest [] complete = rw none (yields_end here) in (
+        begins_with.0,
+        yields_of_begins_with_pieces (BeginsWithLine kind) state.Tree here content rest begins_with.0 complete begins_with.1 yields,
+        begins_with.2,
+      )
 
   pub rejected : (error : Error) → rest ≢ [] → IsLineError kind here rest error → IsNamedHeaderError kind name content error
   rejected Malformed some none =

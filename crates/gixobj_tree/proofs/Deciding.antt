@@ -134,7 +134,7 @@ pub begins_with_entry_or_not : (kind : Kind) (input : List ℕ) → ((e : EntryV
     ⊎ BeginsWithNoEntry kind input
 begins_with_entry_or_not kind input =
     ⊎_elim (λ splits. entry_or_none_after_split kind input splits.0 splits.1 splits.2)
-        (λ free. inr (λ e rest has. no_space_there e rest free (parted_of_begins kind input e rest has)))
+    (λ free. inr (λ e rest has. no_space_there e rest free (parted_of_begins kind input e rest has)))
     (splits_at_or_byte_free 32 input)
   where
     no_space_there : (e : EntryView) (rest : List ℕ) → IsByteFree 32 input → Parted kind input e rest → ⊥

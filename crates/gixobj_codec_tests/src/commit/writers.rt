@@ -35,7 +35,9 @@ fn is_long_commit(alloc: Global, len: usize, parents: usize, tokens: usize) -> b
         return false;
     };
     let bytes = commit.as_bytes();
-    bytes.len() == len && both_forms_reencode(alloc, bytes) && has_counts(alloc, bytes, parents, tokens)
+    bytes.len() == len
+        && both_forms_reencode(alloc, bytes)
+        && has_counts(alloc, bytes, parents, tokens)
 }
 
 #[test]

@@ -18,7 +18,7 @@ returns-in_err-entries-clause-error g c =
     if_err_weaken c.from_residual-in_err-entries.result _ _ c.from_residual-in_err-entries.ensures.1
     (stopped_at_call (λ f p h. CalledAt g.F.FnMut f p.1 (Ok p.0) h) (λ f tree x h. CalledAt g.F.FnMut f tree (Err x) h)
     (λ ps. (written_tree : List EntryView) × (n : ℕ) × EmitsBelow (dirs_of c.args.node.now) (bases_of c.args.node.now) ps written_tree n) c.args.out.now
-        c.args.out.now []
+    c.args.out.now []
     [] refl
     (c.in-Some.tree.now, 0, goes.found))
 

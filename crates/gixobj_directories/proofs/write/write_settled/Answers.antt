@@ -84,7 +84,7 @@ returns-clause-written g c =
     let back = with_items_is c.emit.new.pairs c.fill.new.pairs (c.fill.auto.pairs ∙ c.deref_mut.ensures.len) in
     let pushed = (rw room at c.push.ensures.items) ∙ ap (λ ps. ps ++ (c.in_ok-id.id, written_tree) ∷ []) (back ∙ filled) in
     let remaining : opened c.take_written_entries.new.entries c.node.inside.base (parts (child_list c.replace-children.new.dest))
-        ≡ opened written_tree c.node.inside.base [] =
+    ≡ opened written_tree c.node.inside.base [] =
     ap (λ (es : List EntryView). opened es c.node.inside.base (parts (child_list c.replace-children.new.dest))) c.take_written_entries.ensures
     ∙ ap (λ (cs : Children). opened written_tree c.node.inside.base (parts (child_list cs))) c.replace-children.ensures.after
     ∙ ap (λ (cs : List Child). opened written_tree c.node.inside.base (parts cs)) c.new.ensures.list in
@@ -109,7 +109,7 @@ returns-clause-bases g c =
     let written_tree = c.in_ok-written_tree.written_tree in
     let node = c.args.node.now in
     let remaining : opened c.take_written_entries.new.entries c.node.inside.base (parts (child_list c.replace-children.new.dest))
-        ≡ opened written_tree c.node.inside.base [] =
+    ≡ opened written_tree c.node.inside.base [] =
     ap (λ (es : List EntryView). opened es c.node.inside.base (parts (child_list c.replace-children.new.dest))) c.take_written_entries.ensures
     ∙ ap (λ (cs : Children). opened written_tree c.node.inside.base (parts (child_list cs))) c.replace-children.ensures.after
     ∙ ap (λ (cs : List Child). opened written_tree c.node.inside.base (parts cs)) c.new.ensures.list in
@@ -131,7 +131,7 @@ pub take_written_entries-requires-clause-is_at : goal.take_written_entries-requi
 take_written_entries-requires-clause-is_at g c = λ is_written.
     let node = c.args.node.now in
     some_unique c.in_ok-written_tree.written_tree c.node.inside.entries (sym ((c.in_ok-written_tree.ensures {u = tt}).is_at is_written)
-        ∙ dirs_of_nil node c.node.inside.entries
+    ∙ dirs_of_nil node c.node.inside.entries
     (parts (child_list c.node.inside.children)) c.node.view_is)
 
 pub take_leaf_trees-requires-clause-apart : goal.take_leaf_trees-requires-clause-apart

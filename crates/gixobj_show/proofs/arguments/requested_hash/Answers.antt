@@ -15,7 +15,7 @@ returns-in-len2-clause-found c =
     let token : string_bytes c.token-item-then-arguments-lt3.result ≡ c.args.command.now = search rules in
     let second : string_bytes c.sha256-item.result ≡ codes "sha256" = search rules in
     map_two string_bytes c.args.arguments.now c.token-item-then-arguments-lt3.result c.sha256-item.result
-        (omega arith) c.token-item-then-arguments-lt3.is c.sha256-item.is
+    (omega arith) c.token-item-then-arguments-lt3.is c.sha256-item.is
     ∙ cc (token, second)
 
 pub returns-in_default-2-clause-none : goal.returns-in_default-2-clause-none

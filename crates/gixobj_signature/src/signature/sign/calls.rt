@@ -6,7 +6,9 @@ ghost use Rattle.gixobj_signature.specs.Signing.{gpg_call, leaving_call, literal
 
 use super::{Options, is_literal_ssh_key};
 use crate::signature::arguments::Piece::{File, Text};
-use crate::signature::arguments::{environment_of, git_arguments_of, push_arguments, arguments_with};
+use crate::signature::arguments::{
+    arguments_with, environment_of, git_arguments_of, push_arguments,
+};
 use crate::signature::{Call, Word};
 use bstr::{BString, ByteSlice};
 use gixobj_hash::OutOfMemory;

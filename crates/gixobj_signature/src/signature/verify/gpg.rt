@@ -13,7 +13,7 @@ ghost use Rattle.gixobj_signature.specs.Verifying.{IsOutcomeOf, gpg_verified, gp
 
 use super::{Error, Program, run_call};
 use crate::signature::arguments::Piece::{File, Text};
-use crate::signature::arguments::{environment_of, arguments_with};
+use crate::signature::arguments::{arguments_with, environment_of};
 use crate::signature::{Call, Output, Runner, SignedData, Word};
 use bstr::{BString, ByteSlice};
 use gixobj_hash::OutOfMemory;

@@ -7,9 +7,11 @@ ghost use Rattle.gixobj_signature.specs.SignedBytes.{signed_bytes};
 ghost use Rattle.gixobj_signature.specs.Verifiers.{ssh_of, ssh_program_of};
 ghost use Rattle.gixobj_signature.specs.VerifyingCalls.{in_english, novalidate_call, novalidate_arguments, principal_call, principal_arguments, principals_call, revocation_arguments, full_call};
 
-use crate::signature::verify::SshProgram;
 use crate::signature::arguments::Piece::{File, Text, VerifyTime};
-use crate::signature::arguments::{environment_of, git_arguments_of, pair_of, push_arguments, arguments_with};
+use crate::signature::arguments::{
+    arguments_with, environment_of, git_arguments_of, pair_of, push_arguments,
+};
+use crate::signature::verify::SshProgram;
 use crate::signature::{Call, SignedData, Word};
 use bstr::{BString, ByteSlice};
 use gixobj_hash::OutOfMemory;

@@ -10,7 +10,7 @@ invariant_of-self g c =
     record {
       is_open = written_prefix_is_open c.write_below.result old new
           (IfOk-weaker c.write_below.result _ _ (λ it emitted. (emitted.written_tree, emitted.dirs)) c.write_below.ensures.written)
-              c.write_below.ensures.unchanged
+          c.write_below.ensures.unchanged
           (write_keeps_prefix c.write_below.result old new (IfOk-weaker c.write_below.result _ _ (λ it emitted. emitted.rest) c.write_below.ensures.written)
           c.write_below.ensures.unchanged) c.args.self.now.is_open;
     }
