@@ -20,7 +20,7 @@ abbrev pub AreFilled : List EntryView → Type 0
 AreFilled es = AllByRecursion (λ e. IsFalse (is_null e.id)) es
 
 -- the filtered entries after an entry got this id: the rest filters what follows
-pub record Sifts (e : EntryView) (rest remaining : List EntryView) (id : ObjectId) (following : List EntryView) : Type 0 where
+pub record FiltersEntry (e : EntryView) (rest remaining : List EntryView) (id : ObjectId) (following : List EntryView) : Type 0 where
   pub here : non_null_entries (with_id e id ∷ []) ++ following ≡ remaining
   pub is_filtered : IsFilteredTree following rest
   pub filled : AreFilled following
@@ -45,11 +45,11 @@ with_id_of_with_id : (e x : EntryView) (id : ObjectId) → x ≡ with_id e id �
 with_id_of_with_id e x id is = ap (λ (y : EntryView). with_id e y.id) is ∙ sym is
 
 pub filters_step : (e : EntryView) (rest remaining : List EntryView) → AllByRecursion (λ y. e.name ≢ y.name) rest → AreFilled remaining
-    → IsFilteredTree remaining (e ∷ rest) → Sifts e rest remaining (id_among e.name remaining) (filtered_out e.name remaining)
+    → IsFilteredTree remaining (e ∷ rest) → FiltersEntry e rest remaining (id_among e.name remaining) (filtered_out e.name remaining)
 filters_step e rest [] apart filled (inl h) = record { here = refl; is_filtered = h; filled = tt }
 filters_step e rest [] apart filled (inr h) = absurd (cc h.2)
 filters_step e rest (x ∷ xs) apart filled h =
-    elim (same_name x.name e.name) as (λ b. same_name x.name e.name ≡ b → Sifts e rest (x ∷ xs) (cond b x.id (null_id Sha1)) (cond b xs (x ∷ xs))) [
+    elim (same_name x.name e.name) as (λ b. same_name x.name e.name ≡ b → FiltersEntry e rest (x ∷ xs) (cond b x.id (null_id Sha1)) (cond b xs (x ∷ xs))) [
       | true ↦ λ is. ⊎_elim (λ following. absurd (filtered_head_name_ne e.name x xs rest following apart (sym ((bytes_decides x.name e.name).0 is))))
           (λ (here : (id : ObjectId) × (more : List EntryView) × (x ∷ xs ≡ with_id e id ∷ more) × IsFilteredTree more rest). record {
             here = ap (λ (y : EntryView). non_null_entries (y ∷ []) ++ xs)
