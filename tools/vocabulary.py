@@ -144,7 +144,7 @@ IN_COMMENTS = {**by_form(WORDS, " "), **by_form(PAIRS, "|"), **by_form(PHRASES, 
 NAMED, PROSE, IDIOM = search_for(IN_NAMES), search_for(IN_COMMENTS), search_for(by_form(IDIOMS, "|"))
 
 
-class Place:
+class Finding:
     """An in-house word, and where it is."""
 
     def __init__(self, path, line, name, word, instead):
@@ -186,30 +186,30 @@ def words_of_comment(comment):
     return [it.lower() for it in PROSE.findall(IDIOM.sub("", BACKTICKS.sub("", comment)))]
 
 
-def places_of_source(path, source, crate):
-    """The places of a source file: each name once a line."""
+def findings_of_source(path, source, crate):
+    """The findings in a source file: each name once a line."""
     kit, line, found = kit_names(source), 1, {}
     for token in TOKEN[os.path.splitext(path)[1]].finditer(source):
         kind = token.lastgroup
         if kind == "name":
             for word in words_of_name(token[0], kit, crate):
-                found[line, token[0], word] = Place(path, line, token[0], word, IN_NAMES[word])
+                found[line, token[0], word] = Finding(path, line, token[0], word, IN_NAMES[word])
         elif kind == "comment":
             for at, word in enumerate(words_of_comment(token[0])):
-                found[line, at, word] = Place(path, line, "comment", word, IN_COMMENTS[word])
+                found[line, at, word] = Finding(path, line, "comment", word, IN_COMMENTS[word])
         line += token[0].count("\n")
     return list(found.values())
 
 
-def places_of_mutant(path, crate):
-    """The places of a mutant's name, whose hyphens are between words."""
+def findings_of_mutant(path, crate):
+    """The findings in a mutant's name, whose hyphens are between words."""
     name = os.path.splitext(os.path.basename(path))[0]
     words = words_of_name(name.replace("-", "_"), (), crate)
-    return [Place(path, 1, name, word, IN_NAMES[word]) for word in words]
+    return [Finding(path, 1, name, word, IN_NAMES[word]) for word in words]
 
 
-def places_of(top, crate):
-    """The places of a crate: of its sources, definitions and proofs, and of the names of its mutants."""
+def findings_of(top, crate):
+    """The findings in a crate: of its sources, definitions and proofs, and of the names of its mutants."""
     found = []
     own, mutants = f"crates/{crate}", f"mutants/{crate}"
     parts = ((f"{own}/src", ".rt"), (f"{own}/specs", ".antt"), (f"{own}/proofs", ".antt"), (f"{own}/must-fail", ".edit"))
@@ -219,31 +219,31 @@ def places_of(top, crate):
             for name in sorted(it for it in names if it.endswith(ending)):
                 path = os.path.relpath(f"{at}/{name}", top)
                 if ending == ".edit":
-                    found += places_of_mutant(path, crate)
+                    found += findings_of_mutant(path, crate)
                 else:
                     with open(f"{at}/{name}", encoding="utf-8") as it:
-                        found += places_of_source(path, it.read(), crate)
+                        found += findings_of_source(path, it.read(), crate)
     return found
 
 
 def print_counts(found):
-    """Prints how many places each crate has, by words."""
+    """Prints how many findings each crate has, by words."""
     wide = max(map(len, found))
-    for crate, places in found.items():
+    for crate, findings in found.items():
         counts = {}
-        for it in places:
+        for it in findings:
             counts[it.word] = counts.get(it.word, 0) + 1
         by_number = sorted(counts.items(), key=lambda it: (-it[1], it[0]))
         if counts:
-            print(f"{crate:{wide}} {len(places):6}  {', '.join(f'{word} {number}' for word, number in by_number)}")
+            print(f"{crate:{wide}} {len(findings):6}  {', '.join(f'{word} {number}' for word, number in by_number)}")
 
 
 def check(top, crates, is_count, at_most):
-    """Prints the places of these crates, or only their counts; whether there are at most `at_most`."""
-    found = {it: places_of(top, it) for it in crates}
+    """Prints the findings in these crates, or only their counts; whether there are at most `at_most`."""
+    found = {it: findings_of(top, it) for it in crates}
     if not is_count:
-        for places in found.values():
-            for it in places:
+        for findings in found.values():
+            for it in findings:
                 print(it)
     print_counts(found)
     total = sum(map(len, found.values()))
