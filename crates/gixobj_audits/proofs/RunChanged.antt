@@ -1,4 +1,5 @@
--- The files of the written root of a run, and the changes from the stored root to it; the proofs of `changes_of_run` and `run_and_write` use it.
+-- The written root of a run has the files of its steps, and the changes from the stored root lead to them; the proofs
+-- of `changes_of_run` and `run_and_write` use it.
 use Rattle.std.proofs.Common.{◌≡◌, ◌≢◌, ◌⊎◌, ◌∙◌, ◌≤◌, ℕ, Bool, true, false, List, [], ◌∷◌, None, Some, ap, length, refl, subst, sym, take}
 use Rattle.std.specs.Prelude.{IsFalse}
 use Rattle.gix_object.specs.Bases.{HasBases}

@@ -1,5 +1,5 @@
--- A walk along the entries of a directory and the open directories in it, in step: for the loops of a write and for
--- leaf trees.
+-- A walk along the entries of a directory meets each directory that is open in it at its entry: for the loops of a
+-- write and for leaf trees.
 use mathlib.Core.Bool.{true≢false}
 use Rattle.std.proofs.Common.{◌≡◌, ◌≢◌, ◌∙◌, ◌<◌, ◌+◌, inl, inr, ℕ, suc, true, false, cond, List, [], ◌∷◌, Option, Some, None, get_or, length, drop, refl, sym, ap, subst, add-one, drop-cons}
 use Rattle.std.specs.Cmp.Lexicographic.{bytes_decides, slice_cmp}

@@ -1,4 +1,5 @@
--- The files of the open directories at and below a path, and of others that replace them: for cursors and `Everywhere`.
+-- The open directories at and below a path have the files there, and others that replace them change no other files:
+-- for cursors and `Everywhere`.
 use Rattle.std.proofs.Common.{◌≡◌, ◌≢◌, inl, inr, ℕ, ◌+◌, zero, suc, List, [], ◌∷◌, ◌++◌, append_assoc, append-nil, length, refl, sym, ap, subst, ◌∙◌, arith, Option, Some, None}
 use Rattle.std.specs.Prelude.{◌↔◌, IsTrue}
 use Rattle.gixobj_tree.specs.Entries.{EntryView}

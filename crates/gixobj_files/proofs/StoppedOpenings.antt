@@ -1,5 +1,5 @@
--- An opening that stopped with an error: the directories opened before, the number of ids looked up, and where it
--- stopped. The editor's failed calls use it.
+-- An opening that stopped with an error has opened the directories before it, counted their lookups, and stopped at the
+-- error's directory. The editor's failed calls use it.
 use Rattle.std.proofs.Common.{◌≡◌, inl, inr, ℕ, ◌≤◌, true, false, List, [], ◌∷◌, ◌++◌, append_assoc, length, length-append, refl, sym, ap, subst, ◌∙◌, arith, Option, Some, None}
 use Rattle.std.specs.Prelude.{◌&&◌}
 use Rattle.gixobj_tree.specs.Entries.{EntryView}

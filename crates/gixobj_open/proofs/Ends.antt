@@ -1,4 +1,5 @@
--- The first and the last open directory of a list in pieces, and the list without the last: for drops and leaf trees.
+-- A list in pieces without its last open directory, or with another first one, is the list without the last, or with
+-- another first one: for drops and leaf trees.
 use Rattle.std.proofs.Common.{◌≡◌, ◌≢◌, ◌∙◌, ◌≤◌, ◌+◌, ℕ, Less, true, List, [], ◌∷◌, ◌++◌, get_or, set, length, length-append, refl, sym, ap, subst, arith}
 use Rattle.std.proofs.lemmas.List.{map-append}
 use Rattle.std.specs.List.{flat_map}

@@ -1,4 +1,5 @@
--- The laws of `inner` and `with_inner`: of any list of open directories, and of one level. Descents use them.
+-- The directory that `with_inner` sets at a name is the one that `inner` finds there, in any list of open directories
+-- and in one level. Descents use it.
 use mathlib.Core.Bool.{true≢false}
 use Rattle.std.proofs.Common.{zero, suc, ◌≡◌, ◌≢◌, ◌<◌, ◌+◌, ℕ, true, false, not, cond, List, [], ◌∷◌, ◌++◌, Some, None, get_or, length, nat_lt, refl, sym, ap, subst, ◌∙◌, one-add, arith}
 use Rattle.std.specs.Prelude.{◌&&◌, ◌||◌, set}

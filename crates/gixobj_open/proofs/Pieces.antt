@@ -1,5 +1,5 @@
--- The open directories in a directory, in pieces: the one at a position, a changed one, and those of a walk; used for
--- the calls of `Children` and the descents of `Open`.
+-- The open directory at a position in pieces is the one at its index in the list, also once it is changed; used for the
+-- calls of `Children` and the descents of `Open`.
 use Rattle.std.proofs.Common.{◌≡◌, ◌≢◌, ◌∙◌, ◌<◌, ◌≤◌, ℕ, Bool, zero, suc, true, false, cond, List, [], ◌∷◌, ◌++◌, Some, None, get_or, length, length-append, set, refl, sym, ap, subst, arith}
 use Rattle.std.specs.List.{flat_map, position}
 use Rattle.std.specs.Vec.{with_item}

@@ -1,4 +1,5 @@
--- The open directories after an edit of one level: for the functions of `open`, and for openings.
+-- An edit of one level changes the open directories at and below its name alone: for the functions of `open`, and for
+-- openings.
 use mathlib.Core.Bool.{true≢false}
 use Rattle.std.proofs.Common.{◌≡◌, ◌≢◌, ◌∙◌, ◌++◌, ℕ, true, false, cond, List, [], ◌∷◌, Option, Some, None, length, refl, sym, ap, arith}
 use Rattle.std.specs.Prelude.{◌==◌, IfNone}

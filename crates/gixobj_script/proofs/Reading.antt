@@ -1,4 +1,5 @@
--- Parsing of a script line by line; used for `parse_script` and laws of scripts.
+-- A script that is parsed line by line decodes to the commands of its lines, or has a first bad line; used for
+-- `parse_script` and laws of scripts.
 use Rattle.std.proofs.Common.{◌≡◌, ◌≢◌, ◌+◌, ◌++◌, ◌∷◌, ◌≤◌, ℕ, All, List, [], ap, append_assoc, arith, inl, inr, length, length-append, refl, subst, sym, ◌∙◌}
 use Rattle.std.proofs.lemmas.List.Elements.{All-nil, All-push}
 use Rattle.std.specs.List.{AllZip}

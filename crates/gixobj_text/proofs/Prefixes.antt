@@ -1,4 +1,5 @@
--- Positions of the marker prefix, a newline and the prefix of all markers; the search `find` uses these lemmas.
+-- The last marker is at the last prefix of all markers that begins a line and names a format; the search `find` uses
+-- these lemmas.
 use Rattle.std.proofs.Common.{◌≡◌, ◌≢◌, ◌≤◌, ◌<◌, ◌+◌, ◌-◌, ℕ, List, [], ◌∷◌, ◌++◌, append_assoc, ap, arith, drop, get_or, inl, inr, length, length-append, refl, subst, suc, sym, take, ◌∙◌}
 use Rattle.std.proofs.lemmas.List.{get_or-append-add, get_or_append_left, get_or-take, length-take-le, take-append-drop, take_more, take_rest}
 use Rattle.std.proofs.lemmas.List.Elements.{All-get_or}
