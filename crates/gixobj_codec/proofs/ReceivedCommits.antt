@@ -10,7 +10,7 @@ use Rattle.gixobj_commit.specs.CommitSigning.{is_header_named, payload_of_commit
 use Rattle.gixobj_commit.specs.CommitWriting.{encode_commit}
 use Rattle.gixobj_tokens.specs.CommitSignatures.{signature_field, HasCommitSignature, HasNoSignature}
 use Rattle.gixobj_fields.proofs.HeadersRoundTrip.{header_round_trips}
-use Rattle.gixobj_fields.proofs.Runs.{begins_with_one_piece}
+use Rattle.gixobj_fields.proofs.Runs.{begins_with_pieces_snoc}
 use Rattle.gixobj_fields.specs.FieldWriting.{encode_header, value_lines}
 use Rattle.gixobj_fields.specs.HeaderFormat.{BeginsWithHeader, Header, DecodesToHeader, value_of_lines}
 use Rattle.gixobj_fields.specs.Runs.{BeginsWithPieces, Yields, complete, yields_end, yields_piece}
@@ -394,7 +394,7 @@ module _ (kind : Kind) (commit : CommitLines) (bytes : List ℕ) (named : HasHea
       let rest : has.rest ≡ 10 ∷ commit.message = message_follows kind commit bytes named fields value signed has in
       let after : has.following ≡ state.ExtraHeaders = state_after_header kind has.before has.input has.header has.following has.rest has.comes in
       let begins_with : BeginsWithPieces (BeginsWithLine kind) state.Tree content (has.begins_with.0 ++ header_line has.header ∷ []) has.following has.rest =
-      begins_with_one_piece (BeginsWithLine kind) state.Tree has.before has.following content has.input has.rest has.begins_with.0
+      begins_with_pieces_snoc (BeginsWithLine kind) state.Tree has.before has.following content has.input has.rest has.begins_with.0
       (header_line has.header) has.begins_with.1 has.comes in
       let ends : BeginsWithLine kind has.following has.rest (message_line commit.message) state.End [] =
       subst (λ (it : State). BeginsWithLine kind it has.rest (message_line commit.message) state.End []) (sym after)

@@ -24,8 +24,8 @@ module _ (base : List EntryView) (e : EntryView) (written_tree : List EntryView)
   emits_written_unchanged filled same = λ inside based inner n is found. emits_entry_append_nil inside based e inner (entry_unless_null e e.id) (n + 1) (n + 1)
       (omega arith) (emits_entry_unchanged inside based e inner written_tree n filled (is ∙ ap Some (sym same)) found)
 
-  pub emits_written_of_kept : written_tree ≢ [] → written_tree ≢ base → (id : ObjectId)
+  pub emits_written_changed : written_tree ≢ [] → written_tree ≢ base → (id : ObjectId)
       → EmitsWritten base e written_tree ((id, written_tree) ∷ []) (entry_unless_null e id) 0
-  emits_written_of_kept filled changed id = λ inside based inner n is found.
+  emits_written_changed filled changed id = λ inside based inner n is found.
       subst (λ k. EmitsEntry inside based e (inner ++ (id, written_tree) ∷ []) (entry_unless_null e id) k) (omega arith)
       (emits_entry_written inside based e inner written_tree n id filled (λ q. changed (some_unique written_tree base (sym q ∙ is))) found)

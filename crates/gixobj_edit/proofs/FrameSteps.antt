@@ -5,7 +5,7 @@ use Rattle.std.proofs.lemmas.List.{length-drop, length-take-le}
 use Rattle.std.specs.FinMap as map
 use Rattle.std.specs.Prelude.{Err, None, Ok, Option, Result, Some}
 use Rattle.gixobj_edit.specs.Frames.{AreFrames, AreNoFrames, BeginsWithFrame, FrameComes, objects_of, with_contents}
-use Rattle.gixobj_fields.proofs.Runs.{begins_with_one_piece, yields_of_begins_with_pieces}
+use Rattle.gixobj_fields.proofs.Runs.{begins_with_pieces_snoc, yields_of_begins_with_pieces}
 use Rattle.gixobj_fields.specs.Runs.{HasNoPiece, BeginsWithPieces, Yields, broken, complete, yields_end, yields_error}
 use Rattle.gixobj_hash.proofs.Headers.{parts_of_loose_header}
 use Rattle.gixobj_hash.specs.Decode.{HasLooseHeaderOfLength}
@@ -86,7 +86,7 @@ objects_snoc hash contents content old new id inserted same is =
 
 module _ (bytes rest : List ℕ) (contents : List (List ℕ)) (begins_with : BeginsWithPieces FrameComes tt bytes contents tt rest) where
   pub frames_snoc : (content after : List ℕ) → BeginsWithFrame rest content after → BeginsWithPieces FrameComes tt bytes (contents ++ content ∷ []) tt after
-  frames_snoc content after is = begins_with_one_piece FrameComes tt tt tt bytes rest after contents content begins_with is
+  frames_snoc content after is = begins_with_pieces_snoc FrameComes tt tt tt bytes rest after contents content begins_with is
 
   pub frames_end : rest ≡ [] → AreFrames bytes contents
   frames_end none =

@@ -2,7 +2,7 @@
 use Rattle.std.proofs.Common.{◌≡◌, ◌≢◌, ◌≤◌, ℕ, List, [], ◌∷◌, ◌++◌, arith, length, refl, subst, ◌∙◌}
 use Rattle.std.proofs.lemmas.List.Elements.{All-nil, All-push}
 use Rattle.std.specs.Prelude.{Some, None, Result, Ok, Err}
-use Rattle.gixobj_fields.proofs.Runs.{begins_with_one_piece, yields_of_begins_with_pieces}
+use Rattle.gixobj_fields.proofs.Runs.{begins_with_pieces_snoc, yields_of_begins_with_pieces}
 use Rattle.gixobj_fields.specs.Iterators.{FindsFault, FindsFirst, FindsNone, NextPiece, YieldsNone, BeginsWithOtherPieces, ReadsFirst, ReadsNone, ReaderState}
 use Rattle.gixobj_fields.specs.Runs.{IsPieceError, Yields, broken, complete, yields_end, yields_error}
 use Rattle.gixobj_hash.specs.declared.decode.Error.{Error}
@@ -42,7 +42,8 @@ module _ {R K S P T : Type 0} (status : R → ReaderState K S) (Has : K → S �
       record {
         begins_with = (
           consumed.0 ++ view piece ∷ [],
-          begins_with_one_piece (Has (status reader).kind) (status reader).state (status at).state (status after).state (status reader).bytes (status at).bytes
+          begins_with_pieces_snoc (Has (status reader).kind) (status reader).state (status at).state (status after).state (status reader).bytes
+              (status at).bytes
               (status after).bytes consumed.0 (view piece) consumed.1 there.0,
           All-push (λ it. ¬ Is it) consumed.0 (view piece) consumed.2 other,
         );

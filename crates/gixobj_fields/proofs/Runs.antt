@@ -15,14 +15,14 @@ module _ {P : Type 0} (Is : P → Type 0) where
 module _ {S P : Type 0} (Has : S → List ℕ → P → S → List ℕ → Type 0) where
   -- ---- consumed pieces
 
-  pub begins_with_one_piece : (before next following : S) (input after rest : List ℕ) (pieces : List P) (piece : P)
+  pub begins_with_pieces_snoc : (before next following : S) (input after rest : List ℕ) (pieces : List P) (piece : P)
       → BeginsWithPieces Has before input pieces next after
       → Has next after piece following rest
       → BeginsWithPieces Has before input (pieces ++ piece ∷ []) following rest
-  begins_with_one_piece before next following input after rest [] piece (same_state, same_input) has =
+  begins_with_pieces_snoc before next following input after rest [] piece (same_state, same_input) has =
       (following, rest, rw (same_state, same_input) has, (refl, refl))
-  begins_with_one_piece before next following input after rest (first ∷ pieces) piece (middle, further, it, more) has =
-      (middle, further, it, begins_with_one_piece middle next following further after rest pieces piece more has)
+  begins_with_pieces_snoc before next following input after rest (first ∷ pieces) piece (middle, further, it, more) has =
+      (middle, further, it, begins_with_pieces_snoc middle next following further after rest pieces piece more has)
 
   pub yields_of_begins_with_pieces : (before following : S) (input rest : List ℕ) (pieces : List P) (ending : Ending)
       → BeginsWithPieces Has before input pieces following rest

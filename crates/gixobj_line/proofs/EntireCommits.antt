@@ -6,7 +6,7 @@ use Rattle.std.proofs.lemmas.List.Elements.{All-cons, All-head, All-nil, All-tai
 use Rattle.std.specs.List.{flat_map}
 use Rattle.std.specs.Prelude.{codes, map}
 use Rattle.gixobj_fields.proofs.HeaderFields.{is_id_hex_of_decoded}
-use Rattle.gixobj_fields.proofs.Runs.{yields_after_pieces, one_run, begins_with_one_piece}
+use Rattle.gixobj_fields.proofs.Runs.{yields_after_pieces, one_run, begins_with_pieces_snoc}
 use Rattle.gixobj_fields.specs.HeaderFormat.{BeginsWithSeveralLines, Header, DecodesToHeader, BeginsWithOtherName, encode_field}
 use Rattle.gixobj_fields.specs.Runs.{HasNoPiece, BeginsWithPieces, Yields, complete, yields_end, yields_piece}
 use Rattle.gixobj_hash.specs.Hash.{IsIdHex}
@@ -208,7 +208,7 @@ pub gathers_snoc : (kind : Kind) (bytes : List ℕ) (commit after : CommitLines)
     → BeginsWithLine kind before input line following rest → after ≡ gather commit line → Gathers kind bytes following rest after
 gathers_snoc kind bytes commit after before following input rest line (lines, begins_with, is) has grown = (
   lines ++ line ∷ [],
-  begins_with_one_piece (BeginsWithLine kind) state.Tree before following bytes input rest lines line begins_with has,
+  begins_with_pieces_snoc (BeginsWithLine kind) state.Tree before following bytes input rest lines line begins_with has,
   grown
       ∙ ap (λ (it : CommitLines). gather it line) is ∙ sym (gathered_snoc empty_commit lines line),
 )
@@ -274,7 +274,7 @@ reaches_start kind bytes = ([], (refl, refl))
 pub reaches_more : (kind : Kind) (bytes : List ℕ) (before following : State) (input rest : List ℕ) → Reaches kind bytes before input
     → BeginsWithSomeLine kind before input following rest → Reaches kind bytes following rest
 reaches_more kind bytes before following input rest (lines, begins_with) (line, has) =
-    (lines ++ line ∷ [], begins_with_one_piece (BeginsWithLine kind) state.Tree before following bytes input rest lines line begins_with has)
+    (lines ++ line ∷ [], begins_with_pieces_snoc (BeginsWithLine kind) state.Tree before following bytes input rest lines line begins_with has)
 
 pub reaches_end : (kind : Kind) (bytes : List ℕ) (following : State) (rest : List ℕ) → Reaches kind bytes following rest → following ≡ state.End
     → IsCommit kind bytes

@@ -1,6 +1,6 @@
 -- An iterator over tags that consumes all tokens.
 use Rattle.std.proofs.Common.{◌++◌, ◌∷◌, ◌∙◌, List, [], ℕ, Ok, Err, Some, None, ap, subst, sym}
-use Rattle.gixobj_fields.proofs.Runs.{begins_with_one_piece, yields_of_begins_with_pieces}
+use Rattle.gixobj_fields.proofs.Runs.{begins_with_pieces_snoc, yields_of_begins_with_pieces}
 use Rattle.gixobj_fields.specs.Iterators.{ReaderState}
 use Rattle.gixobj_fields.specs.Runs.{HasNoPiece, broken, complete, yields_end, yields_error}
 use Rattle.gixobj_hash.specs.declared.decode.Error.{Error}
@@ -26,7 +26,7 @@ module _ (kind : Kind) (content : List ℕ) where
   goes_on tokens at after token (consumed, same_kind) (has, kept, such) =
       let here = subst (λ (it : Kind). BeginsWithTagToken it (tag_reader_state at).state (tag_reader_state at).bytes (tag_token_view token)
       (tag_reader_state after).state (tag_reader_state after).bytes) same_kind has in (
-        begins_with_one_piece (BeginsWithTagToken kind) state.Target (tag_reader_state at).state (tag_reader_state after).state content
+        begins_with_pieces_snoc (BeginsWithTagToken kind) state.Target (tag_reader_state at).state (tag_reader_state after).state content
             (tag_reader_state at).bytes
             (tag_reader_state after).bytes tokens (tag_token_view token) consumed here,
         kept ∙ same_kind,

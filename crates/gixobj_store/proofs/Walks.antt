@@ -2,7 +2,7 @@
 use Rattle.std.proofs.Common.{◌++◌, ◌∷◌, List, [], ℕ, Ok, Err, Some, None, ap, refl, subst, sym, ◌∙◌}
 use Rattle.std.proofs.lemmas.List.{append-nil, append_assoc}
 use Rattle.std.specs.Prelude.{⊤, Option, Result}
-use Rattle.gixobj_fields.proofs.Runs.{begins_with_one_piece, yields_of_begins_with_pieces}
+use Rattle.gixobj_fields.proofs.Runs.{begins_with_pieces_snoc, yields_of_begins_with_pieces}
 use Rattle.gixobj_fields.specs.Iterators.{ReaderState}
 use Rattle.gixobj_fields.specs.Runs.{broken, complete, yields_end, yields_error}
 use Rattle.gixobj_hash.specs.declared.decode.Error.{Error}
@@ -23,7 +23,7 @@ pub has_consumed_snoc : (kind : Kind) (content : List ℕ) (entries : List Entry
     → HasConsumedEntries kind content (entries ++ entry_view entry ∷ []) after
 has_consumed_snoc kind content entries at after entry (consumed, same_kind) (has, kept, such) =
     let here = subst (λ (it : Kind). EntryStep it tt (tree_reader_state at).bytes (entry_view entry) tt (tree_reader_state after).bytes) same_kind has in (
-      begins_with_one_piece (EntryStep kind) tt tt tt content (tree_reader_state at).bytes (tree_reader_state after).bytes entries
+      begins_with_pieces_snoc (EntryStep kind) tt tt tt content (tree_reader_state at).bytes (tree_reader_state after).bytes entries
           (entry_view entry) consumed here,
       kept
           ∙ same_kind,

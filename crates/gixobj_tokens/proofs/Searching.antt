@@ -4,7 +4,7 @@ use Rattle.std.proofs.Math.Seq.{take-append_seam}
 use Rattle.std.proofs.lemmas.Bool.{eqb-true}
 use Rattle.std.proofs.lemmas.List.{length-append, length-take}
 use Rattle.std.proofs.lemmas.List.Elements.{All-push}
-use Rattle.gixobj_fields.proofs.Runs.{begins_with_one_piece, yields_of_begins_with_pieces}
+use Rattle.gixobj_fields.proofs.Runs.{begins_with_pieces_snoc, yields_of_begins_with_pieces}
 use Rattle.gixobj_fields.specs.HeaderFormat.{encode_field}
 use Rattle.gixobj_fields.specs.Runs as runs
 use Rattle.gixobj_fields.specs.Runs.{BeginsWithOtherPieces, Yields, broken, complete, yields_end, yields_error}
@@ -53,7 +53,7 @@ module _ (kind : Kind) (name content : List ℕ) (here : State) (rest : List ℕ
       → BeginsWithOtherPieces (BeginsWithLine kind) (IsNamedLine name) state.Tree content next after
   begins_with_more_pieces line next after has other = (
     begins_with.0 ++ line ∷ [],
-    begins_with_one_piece (BeginsWithLine kind) state.Tree here next content rest after begins_with.0 line begins_with.1 has,
+    begins_with_pieces_snoc (BeginsWithLine kind) state.Tree here next content rest after begins_with.0 line begins_with.1 has,
     All-push (λ it. ¬ IsNamedLine name it) begins_with.0 line begins_with.2 other,
   )
 

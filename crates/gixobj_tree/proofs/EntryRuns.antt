@@ -4,7 +4,7 @@ use Rattle.std.proofs.lemmas.List.{map-append}
 use Rattle.std.specs.List.{AllZip, concat}
 use Rattle.std.specs.Prelude.{⊤}
 use Rattle.gixobj_fields.proofs.Runs as runs
-use Rattle.gixobj_fields.proofs.Runs.{begins_with_one_piece, yields_of_begins_with_pieces}
+use Rattle.gixobj_fields.proofs.Runs.{begins_with_pieces_snoc, yields_of_begins_with_pieces}
 use Rattle.gixobj_fields.specs.Runs.{Ending, HasNoPiece, BeginsWithPieces, broken, complete, yields_end, yields_error, yields_piece}
 use Rattle.gixobj_hash.specs.declared.hash.kind.Kind.{Kind}
 use Rattle.gixobj_tree.specs.Entries.{EntryView}
@@ -64,7 +64,8 @@ begins_with_entries_nil kind input = (refl, refl)
 
 pub begins_with_entries_snoc : (kind : Kind) (input after rest : List ℕ) (entries : List EntryView) (e : EntryView) → BeginsWithEntries kind input entries after
     → BeginsWithEntry kind after e rest → BeginsWithEntries kind input (entries ++ e ∷ []) rest
-begins_with_entries_snoc kind input after rest entries e consumed has = begins_with_one_piece (EntryStep kind) tt tt tt input after rest entries e consumed has
+begins_with_entries_snoc kind input after rest entries e consumed has = begins_with_pieces_snoc
+    (EntryStep kind) tt tt tt input after rest entries e consumed has
 
 pub begins_with_entries_of_views : {X : Type 0} (view : X → EntryView) (kind : Kind) (input after rest : List ℕ) (xs new : List X) (x : X)
     → BeginsWithEntries kind input (map view xs) after → BeginsWithEntry kind after (view x) rest → new ≡ xs ++ x ∷ []

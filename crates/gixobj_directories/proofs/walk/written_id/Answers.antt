@@ -9,7 +9,7 @@ use Rattle.gixobj_directories.specs.Frames.{EmitsWritten}
 use Rattle.gixobj_directories.specs.WriteErrors.{IsWriteError}
 use Rattle.gixobj_directories.proofs.Emitting.{folds_to_one, if_err_weaken, nil_of_is_empty, not_nil_of_not_empty, stopped_after_folds, stopped_at_call}
 use Rattle.gixobj_directories.proofs.TakenTrees.{adds_nil, adds_pair}
-use Rattle.gixobj_directories.proofs.WrittenEntries.{emits_written_empty, emits_written_unchanged, emits_written_of_kept}
+use Rattle.gixobj_directories.proofs.WrittenEntries.{emits_written_empty, emits_written_unchanged, emits_written_changed}
 use Rattle.gixobj_directories.proofs.walk.written_id.Goals as goal
 
 pub returns-then-has_no_entries-clause-emitted : goal.returns-then-has_no_entries-clause-emitted
@@ -37,7 +37,7 @@ returns-in_err-tree-clause-error g c =
     if_err_weaken c.from_residual.result _ _ c.from_residual.ensures.1
     (stopped_at_call (λ f p h. CalledAt g.F.FnMut f p.1 (Ok p.0) h) (λ f tree x h. CalledAt g.F.FnMut f tree (Err x) h)
     (λ more. (kept : List EntryView) × (n : ℕ) × EmitsWritten base e written_tree more kept n) c.args.out.now c.args.out.now [] ((e.id, written_tree) ∷ []) refl
-    (entry_unless_null e e.id, 0, emits_written_of_kept base e written_tree filled changed e.id))
+    (entry_unless_null e e.id, 0, emits_written_changed base e written_tree filled changed e.id))
 
 pub emit_tree-requires-clause-storable : goal.emit_tree-requires-clause-storable
 emit_tree-requires-clause-storable g c = subst IsStorable (sym c.in_ok-tree.ensures.tree) c.requires.storable
@@ -63,7 +63,7 @@ returns-in_err-id-clause-error g c =
         entry_unless_null e one.0,
         0,
         subst (λ ps. EmitsWritten base e written_tree ps (entry_unless_null e one.0) 0) (ap (λ t'. (one.0, t') ∷ []) made ∙ sym (append-nil qs ∙ one.1))
-            (emits_written_of_kept base e written_tree filled changed one.0),
+            (emits_written_changed base e written_tree filled changed one.0),
       ),
     ))
     c.in_err-id.field-0.0 c.in_err-id.ensures.error))
@@ -85,5 +85,5 @@ returns-clause-emitted g c =
       refl,
       folds_to_one gave c.args.out.now (c.in_ok-id.id, tree) c.emit_tree.new.out emitted.1,
       subst (λ t'. EmitsWritten base e written_tree ((c.in_ok-id.id, t') ∷ []) (entry_unless_null e c.in_ok-id.id) 0) made
-          (emits_written_of_kept base e written_tree filled changed c.in_ok-id.id),
+          (emits_written_changed base e written_tree filled changed c.in_ok-id.id),
     )
