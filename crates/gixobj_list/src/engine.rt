@@ -12,7 +12,7 @@ use gixobj_show::arguments::requested_hash;
 use std::alloc::Global;
 use std::io::{Read, Write};
 
-/// Runs `tree` or `show` on `arguments`, the arguments after the program's name, and returns the exit status.
+/// Runs `tree` or `show` on `arguments`, those after the program's name, and returns the exit status.
 ///
 /// Both read the entire input. Ids are of SHA-1, or of SHA-256 with a second argument `sha256`.
 ///

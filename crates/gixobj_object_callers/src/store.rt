@@ -142,7 +142,8 @@ pub fn owned_copy_of(alloc: Global, bytes: &[u8], kind: Kind) -> Result<Vec<u8>,
 ///
 /// If each entry round-trips, the call fails only for memory.
 pub fn round_trip(alloc: Global, tree: &Tree, kind: Kind) -> Result<Tree, CopyError>
-    ensures unchanged { IfOk result (λ decoded. All (RoundTrips kind) tree.now → decoded ≡ tree.now) }
+    ensures unchanged { IfOk result (λ decoded. All (RoundTrips kind) tree.now
+        → decoded ≡ tree.now) }
     ensures error { IfErr result (λ error. All (RoundTrips kind) tree.now → FailsForRoom error) }
 {
     tree_decodes_uniquely();

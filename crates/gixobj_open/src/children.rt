@@ -83,7 +83,8 @@ impl Children {
     /// Returns the directory at a position.
     pub(crate) fn at(&self, at: Position) -> &Child
         requires { IsAt self.now at.piece at.index }
-        ensures { result.now ≡ get_or (child_list self.now) (index_of_child self.now at.piece at.index)
+        ensures { result.now ≡ get_or (child_list self.now)
+            (index_of_child self.now at.piece at.index)
             result.now }
     {
         if at.piece == 0 {

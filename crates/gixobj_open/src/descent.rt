@@ -105,7 +105,8 @@ impl Open {
     pub fn descend<'a>(&mut self, path: &'a [BString]) -> Descent<'a>
         ensures path { path.now ≡ result.consumed.now ++ result.rest.now }
         ensures rest { path.now ≢ [] → result.rest.now ≢ [] }
-        ensures descended { IsDescended (names_of result.consumed.now) self.old self.new result.above }
+        ensures descended { IsDescended (names_of result.consumed.now) self.old self.new
+            result.above }
     {
         let alloc = *self.base.entries.allocator();
         let mut above = Open::new(alloc, Tree::empty(alloc));

@@ -18,7 +18,7 @@ use gixobj_show::input::read_all;
 use std::alloc::Global;
 use std::io::{Read, Write};
 
-/// Runs the program on `arguments`, the arguments after its name, and returns the exit status.
+/// Runs the program on `arguments`, those after its name, and returns the exit status.
 ///
 /// `show`, `tree` and `edit` read the entire input. Ids are of SHA-1, or of SHA-256 with a second argument
 /// `sha256`.

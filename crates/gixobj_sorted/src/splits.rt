@@ -88,7 +88,8 @@ fn split_at<T: Named>(
     ensures pieced { IsPieced T.name_of T.is_tree_of (λ p. p.items) first.new.items more.new.items }
     ensures unchanged { joined (λ p. p.items) first.new.items more.new.items
         ≡ joined (λ p. p.items) first.old.items more.old.items }
-    ensures at { IfOk result (λ position. position ≡ pieces_at_most (item_key T.name_of T.is_tree_of)
+    ensures at { IfOk result (λ position. position
+        ≡ pieces_at_most (item_key T.name_of T.is_tree_of)
         (key_of name.now is_tree) (λ p. p.items) more.new.items) }
     ensures capacity { vec_capacity first.old ≤ vec_capacity first.new }
 {

@@ -53,7 +53,8 @@ pub fn owned_header_search_complete()
 /// A run to the end yields, for each value, its tag or `Malformed`. Given for each value its tag, or that it
 /// is malformed, every run yields these tags, and an error for each malformed value.
 pub fn borrowed_mergetag_search_complete()
-    ensures yielded { (tags after : Mergetags BorrowedHeaders) (consumed : List (Result TagRef Error))
+    ensures yielded { (tags after : Mergetags BorrowedHeaders)
+        (consumed : List (Result TagRef Error))
         → YieldsThen (NextMergetag (YieldsFirstBy pair_of remaining_headers)) tags consumed None after
         → AllZip (IsTagOf (mergetag_kind tags)) (remaining_mergetags remaining_headers tags) consumed }
     ensures tags { (tags : Mergetags BorrowedHeaders) (read : List (Option TagLines))
