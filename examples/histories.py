@@ -9,7 +9,8 @@ writes FOLDER/FORMAT.batch, the output of `git cat-file --batch-all-objects --ba
 - FORMAT.diff: `git diff-tree -r -z` from the first commit to the last one, with a tab before each path and a newline after
 
 The last commit is a merge. A path has a quote and a letter outside ASCII; a file becomes a symbolic link, another one a
-directory; one entry is a submodule's commit. FOLDER/recorded.rt has the same as constants, for the tests.
+directory; one entry is a submodule's commit. FOLDER/recorded.rt has the same as constants, for the tests. It is the
+file crates/gixobj_batch/src/recorded.rt.
 """
 
 import os

@@ -5,9 +5,9 @@
 prints the number, the commit and the tree of every hundredth step. `git fsck --strict` must find nothing. `git log`
 must print 1,000 commits, each with the one before it as its only parent.
 
-The steps follow a rule, by which the tests of imports make them too. Step k, from 0, inserts a file three directories
-deep and a program at the root. Each is the blob of `k` and a newline. The step also removes a file, which may be
-missing.
+The steps follow a rule, by which crates/gixobj_import_tests/src/thousand.rt makes them too. Step k, from 0, inserts a
+file three directories deep and a program at the root. Each is the blob of `k` and a newline. The step also removes a
+file, which may be missing.
 """
 
 import os
