@@ -76,17 +76,17 @@ def constants(records):
 
 def record(folder, object_format):
     """Makes the repository of a format. Returns the names and the bytes of what is recorded."""
-    place = os.path.join(folder, object_format)
-    os.makedirs(place)
-    run_git(place, "init", "-q", f"--object-format={object_format}")
+    repository = os.path.join(folder, object_format)
+    os.makedirs(repository)
+    run_git(repository, "init", "-q", f"--object-format={object_format}")
     text = "".join(history(40 if object_format == "sha1" else 64)).replace('data 0\n\n', 'data 0\n')
-    run_git(place, "fast-import", "--quiet", input=text.encode())
-    tip = run_git(place, "rev-parse", "main").decode().strip()
-    first = run_git(place, "rev-list", "--max-parents=0", "main").decode().strip()
-    batch = run_git(place, "cat-file", "--batch-all-objects", "--batch")
-    log = run_git(place, "log", "--first-parent", "--format=%H %an <%ae> %s", "main")
-    listed = run_git(place, "ls-tree", "-r", "-z", "main").replace(b"\0", b"\n")
-    parts = run_git(place, "diff-tree", "-r", "-z", first, tip).split(b"\0")
+    run_git(repository, "fast-import", "--quiet", input=text.encode())
+    tip = run_git(repository, "rev-parse", "main").decode().strip()
+    first = run_git(repository, "rev-list", "--max-parents=0", "main").decode().strip()
+    batch = run_git(repository, "cat-file", "--batch-all-objects", "--batch")
+    log = run_git(repository, "log", "--first-parent", "--format=%H %an <%ae> %s", "main")
+    listed = run_git(repository, "ls-tree", "-r", "-z", "main").replace(b"\0", b"\n")
+    parts = run_git(repository, "diff-tree", "-r", "-z", first, tip).split(b"\0")
     changes = b"".join(head + b"\t" + path + b"\n" for head, path in zip(parts[::2], parts[1::2]))
     for name, content in [("batch", batch), ("log", log), ("ls", listed), ("diff", changes)]:
         with open(os.path.join(folder, f"{object_format}.{name}"), "wb") as it:

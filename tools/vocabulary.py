@@ -2,7 +2,7 @@
 
 Searched are the names and comments of src/, specs/ and proofs/, and the file names of mutants. A name is searched
 component by component: `write_text` has the components `write` and `text`. A comment is searched without what is in
-backticks. Strings and data/ aren't searched.
+backticks. Both are searched without the idioms that are allowed. Strings and data/ aren't searched.
 """
 
 import os
@@ -22,8 +22,14 @@ WORDS = {
     "stands stood": "is at, is",
     "handed": "passed; of trees and ids: emitted",
     "assure assured": "ensure, ensured",
-    "sifted": "filtered",
+    "sift sifts sifted": "filter, filtered",
     "halves": "binary search",
+    "cut cuts": "split; of bytes: truncated",
+    "word words": "argument; of a line: token",
+    "place places": "position, index; of an edit: location",
+    "least": "minimum, at least",
+    "few fewest": "at most, a bound",
+    "greatest": "maximum",
     "growth growths": "allocation",
     "shut": "closed",
     "whole wholes": "entire, complete, unchanged",
@@ -34,7 +40,20 @@ WORDS = {
 }
 
 # Searched in names alone: git itself speaks of a text in prose.
-WORDS_OF_NAMES = {"text texts": "encoding, bytes, input, content, line, message"}
+WORDS_OF_NAMES = {
+    "text texts": "encoding, bytes, input, content, line, message",
+    "passed": "consumed; of an argument: its role",
+    "went": "consumed, emitted",
+    "placed": "is at, position",
+}
+
+# Searched in names, as consecutive components, and in comments.
+PAIRS = {
+    "own tree|own trees": "the written tree",
+    "read back|reads back": "decodes; round trip",
+    "write back|writes back|written back": "encodes, re-encodes identically",
+    "so many": "the number, n",
+}
 
 # Searched in comments alone.
 PHRASES = {
@@ -43,10 +62,21 @@ PHRASES = {
     "exactly where": "if and only if",
     "by halves": "binary search",
     "takes memory": "allocates",
-    "so many": "the number, n",
+    "went past|goes past|go past": "consumed, consumes",
     "its like|its kin": "the name of what is meant",
     "goes out|went out|hands out": "is emitted, emits",
     "gives": "returns, yields",
+}
+
+# Idioms with one of these words, in comments or as consecutive components of a name, and why they are allowed.
+IDIOMS = {
+    "at least": "a bound, as `at most`",
+    "in place|in its place|in their place": "usual for a change without a copy, and for a replacement",
+    "in the first one's place": "usual for a replacement",
+    "place of any entry": "`in place of`, over two lines",
+    "decimal places": "digits after a point",
+    "marker place|marker places": "of the definition `IsMarkerPlace`",
+    "placed file|placed files": "of the definition `PlacedFile`",
 }
 
 # Names that have one of these words, and why they keep it.
@@ -57,6 +87,17 @@ ALLOWED = {
     "AtRefused": "public: Reply::AtRefused",
     "RootRefused": "public: Reply::RootRefused",
     "Text": "public: Word::Text",
+    "Word": "public: the arguments of a Call",
+    "WordView": "the view of Word",
+    "word_view": "the view of Word",
+    "writes_back": "a clause of the kit's",
+    "first_words": "a definition of the kit's, of SHA-1 and SHA-256",
+}
+
+# Names that are allowed in these crates alone, and why.
+ALLOWED_IN = {
+    "words": ("gixobj_signature gixobj_signing_tests gixobj_replay_messages", "public: Call::words"),
+    "word": ("gixobj_signature", "the cases of Word, as definitions name them"),
 }
 
 # Tests and mutants of these names are due, so what begins with one of them keeps its name.
@@ -93,12 +134,17 @@ def by_form(table, separator):
     return {form: instead for forms, instead in table.items() for form in forms.split(separator)}
 
 
-IN_NAMES = {**by_form(WORDS, " "), **by_form(WORDS_OF_NAMES, " ")}
-IN_COMMENTS = {**by_form(WORDS, " "), **by_form(PHRASES, "|")}
-PROSE = re.compile(r"\b(" + "|".join(sorted(IN_COMMENTS, key=len, reverse=True)) + r")\b", re.I)
+def search_for(forms):
+    """The search for these words and phrases, the longest first."""
+    return re.compile(r"\b(" + "|".join(sorted(forms, key=len, reverse=True)) + r")\b", re.I)
 
 
-class Place:
+IN_NAMES = {**by_form(WORDS, " "), **by_form(WORDS_OF_NAMES, " "), **by_form(PAIRS, "|")}
+IN_COMMENTS = {**by_form(WORDS, " "), **by_form(PAIRS, "|"), **by_form(PHRASES, "|")}
+NAMED, PROSE, IDIOM = search_for(IN_NAMES), search_for(IN_COMMENTS), search_for(by_form(IDIOMS, "|"))
+
+
+class Finding:
     """An in-house word, and where it is."""
 
     def __init__(self, path, line, name, word, instead):
@@ -121,43 +167,49 @@ def is_due(name):
     return name.replace("_", "-").startswith(tuple(DUE))
 
 
-def words_of_name(name, kit):
+def is_allowed(name, crate):
+    """Whether a name keeps its word, everywhere or in this crate."""
+    return name in ALLOWED or name in ALLOWED_IN and crate in ALLOWED_IN[name][0].split()
+
+
+def words_of_name(name, kit, crate):
     """The in-house words of a name. The name of a proof, such as `returns-in-Refused`, consists of several names."""
     if is_due(name) or name in kit:
         return []
-    parts = [it for it in name.split("-") if it not in ALLOWED and it not in kit]
-    components = [it.lower() for part in parts for it in COMPONENT.findall(part)]
-    return [it for it in dict.fromkeys(components) if it in IN_NAMES]
+    parts = [it for it in name.split("-") if not is_allowed(it.rstrip("'"), crate) and it not in kit]
+    components = "-".join(" ".join(COMPONENT.findall(it)).lower() for it in parts)
+    return list(dict.fromkeys(NAMED.findall(IDIOM.sub("", components))))
 
 
 def words_of_comment(comment):
     """The in-house words of a comment's prose."""
-    return [it.lower() for it in PROSE.findall(BACKTICKS.sub("", comment))]
+    return [it.lower() for it in PROSE.findall(IDIOM.sub("", BACKTICKS.sub("", comment)))]
 
 
-def places_of_source(path, source):
-    """The places of a source file: each name once a line."""
+def findings_of_source(path, source, crate):
+    """The findings in a source file: each name once a line."""
     kit, line, found = kit_names(source), 1, {}
     for token in TOKEN[os.path.splitext(path)[1]].finditer(source):
         kind = token.lastgroup
         if kind == "name":
-            for word in words_of_name(token[0], kit):
-                found[line, token[0], word] = Place(path, line, token[0], word, IN_NAMES[word])
+            for word in words_of_name(token[0], kit, crate):
+                found[line, token[0], word] = Finding(path, line, token[0], word, IN_NAMES[word])
         elif kind == "comment":
             for at, word in enumerate(words_of_comment(token[0])):
-                found[line, at, word] = Place(path, line, "comment", word, IN_COMMENTS[word])
+                found[line, at, word] = Finding(path, line, "comment", word, IN_COMMENTS[word])
         line += token[0].count("\n")
     return list(found.values())
 
 
-def places_of_mutant(path):
-    """The places of a mutant's name."""
+def findings_of_mutant(path, crate):
+    """The findings in a mutant's name, whose hyphens are between words."""
     name = os.path.splitext(os.path.basename(path))[0]
-    return [Place(path, 1, name, word, IN_NAMES[word]) for word in words_of_name(name, ())]
+    words = words_of_name(name.replace("-", "_"), (), crate)
+    return [Finding(path, 1, name, word, IN_NAMES[word]) for word in words]
 
 
-def places_of(top, crate):
-    """The places of a crate: of its sources, definitions and proofs, and of the names of its mutants."""
+def findings_of(top, crate):
+    """The findings in a crate: of its sources, definitions and proofs, and of the names of its mutants."""
     found = []
     own, mutants = f"crates/{crate}", f"mutants/{crate}"
     parts = ((f"{own}/src", ".rt"), (f"{own}/specs", ".antt"), (f"{own}/proofs", ".antt"), (f"{own}/must-fail", ".edit"))
@@ -167,31 +219,31 @@ def places_of(top, crate):
             for name in sorted(it for it in names if it.endswith(ending)):
                 path = os.path.relpath(f"{at}/{name}", top)
                 if ending == ".edit":
-                    found += places_of_mutant(path)
+                    found += findings_of_mutant(path, crate)
                 else:
                     with open(f"{at}/{name}", encoding="utf-8") as it:
-                        found += places_of_source(path, it.read())
+                        found += findings_of_source(path, it.read(), crate)
     return found
 
 
 def print_counts(found):
-    """Prints how many places each crate has, by words."""
+    """Prints how many findings each crate has, by words."""
     wide = max(map(len, found))
-    for crate, places in found.items():
+    for crate, findings in found.items():
         counts = {}
-        for it in places:
+        for it in findings:
             counts[it.word] = counts.get(it.word, 0) + 1
         by_number = sorted(counts.items(), key=lambda it: (-it[1], it[0]))
         if counts:
-            print(f"{crate:{wide}} {len(places):6}  {', '.join(f'{word} {number}' for word, number in by_number)}")
+            print(f"{crate:{wide}} {len(findings):6}  {', '.join(f'{word} {number}' for word, number in by_number)}")
 
 
 def check(top, crates, is_count, at_most):
-    """Prints the places of these crates, or only their counts; whether there are at most `at_most`."""
-    found = {it: places_of(top, it) for it in crates}
+    """Prints the findings in these crates, or only their counts; whether there are at most `at_most`."""
+    found = {it: findings_of(top, it) for it in crates}
     if not is_count:
-        for places in found.values():
-            for it in places:
+        for findings in found.values():
+            for it in findings:
                 print(it)
     print_counts(found)
     total = sum(map(len, found.values()))

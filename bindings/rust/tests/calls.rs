@@ -146,7 +146,7 @@ fn tag_tokens_are_borrowed() {
 #[test]
 fn tags_without_a_tagger() {
     let name = TAG.iter().enumerate().filter(|(_, it)| **it == b'\n');
-    let end = name.map(|(place, _)| place + 1).nth(2).unwrap();
+    let end = name.map(|(position, _)| position + 1).nth(2).unwrap();
     assert_eq!(tag_tokens(SHA1, &TAG[..end]).count(), 3);
     let bytes = [&TAG[..end], b"\nm"].concat();
     let found: Vec<_> = tag_tokens(SHA1, &bytes).skip(3).collect();
@@ -160,14 +160,14 @@ fn tags_without_a_tagger() {
 /// A tag is accepted if and only if its tokens have a name and no error.
 #[test]
 fn check_agrees_with_tokens_on_changed_tags() {
-    for place in 0..TAG.len() {
+    for position in 0..TAG.len() {
         for byte in [b'\n', b' ', b'<', b'0', 0, b'x', 255] {
             let mut bytes = TAG.to_vec();
-            bytes[place] = byte;
+            bytes[position] = byte;
             let run: Result<Vec<_>, _> = tag_tokens(SHA1, &bytes).collect();
             let is_run = run.is_ok_and(|run| run.len() > 2);
             let is_tag = check(SHA1, Kind::Tag, &bytes).is_ok();
-            assert_eq!(is_run, is_tag, "{place} {byte}");
+            assert_eq!(is_run, is_tag, "{position} {byte}");
         }
     }
 }
@@ -198,14 +198,14 @@ fn headers_have_names() {
 /// A commit is accepted if and only if its tokens end with a message.
 #[test]
 fn check_agrees_with_tokens_on_changed_commits() {
-    for place in 0..COMMIT.len() {
+    for position in 0..COMMIT.len() {
         for byte in [b'\n', b' ', b'<', b'0', 0, b'x', 255] {
             let mut bytes = COMMIT.to_vec();
-            bytes[place] = byte;
+            bytes[position] = byte;
             let run: Result<Vec<_>, _> = tokens(SHA1, &bytes).collect();
             let is_run = matches!(run.as_deref(), Ok([.., Token::Message(_)]));
             let is_commit = check(SHA1, Kind::Commit, &bytes).is_ok();
-            assert_eq!(is_run, is_commit, "{place} {byte}");
+            assert_eq!(is_run, is_commit, "{position} {byte}");
         }
     }
 }

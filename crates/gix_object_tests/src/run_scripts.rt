@@ -42,9 +42,9 @@ fn drawn_name(numbers: &mut Numbers) -> &'static [u8] {
 fn drawn_path(alloc: Global, numbers: &mut Numbers) -> Vec<BString> {
     let mut path = Vec::new(alloc);
     let length = numbers.draw() & 3;
-    for place in 0..3u64 {
+    for position in 0..3u64 {
         let name = drawn_name(numbers);
-        if place <= length {
+        if position <= length {
             let _ = path.push(string_of(alloc, name));
         }
     }
@@ -124,9 +124,9 @@ fn drawn_edit(alloc: Global, numbers: &mut Numbers) -> Edit {
 fn drawn_edits(alloc: Global, numbers: &mut Numbers) -> Vec<Edit> {
     let mut edits = Vec::new(alloc);
     let count = numbers.draw() & 3;
-    for place in 0..4u64 {
+    for position in 0..4u64 {
         let edit = drawn_edit(alloc, numbers);
-        if place <= count {
+        if position <= count {
             let _ = edits.push(edit);
         }
     }

@@ -15,7 +15,7 @@ actor_line_append_assoc : (name_bytes email gap time rest : List ℕ) → name_b
 actor_line_append_assoc name_bytes email gap time rest = simp append_assoc
 
 -- the parts of a line, split from the left
-pub record Cuts (line name email time rest : List ℕ) : Type 0 where
+pub record SplitsActorLine (line name email time rest : List ℕ) : Type 0 where
   pub name_bytes : List ℕ
   pub following : List ℕ
   pub after : List ℕ
@@ -31,23 +31,23 @@ pub record Cuts (line name email time rest : List ℕ) : Type 0 where
   pub timed : AllPass is_time_byte time
   pub ends : EndsTime rest
 
-pub line_of_splits : (line name email time rest : List ℕ) → Cuts line name email time rest → IsActorLine line name email time rest
-line_of_splits line name email time rest cuts =
-    let after : cuts.after ≡ cuts.gap ++ (time ++ rest) = cuts.skipped ∙ ap (λ it. cuts.gap ++ it) cuts.joined in
+pub line_of_splits : (line name email time rest : List ℕ) → SplitsActorLine line name email time rest → IsActorLine line name email time rest
+line_of_splits line name email time rest splits =
+    let after : splits.after ≡ splits.gap ++ (time ++ rest) = splits.skipped ∙ ap (λ it. splits.gap ++ it) splits.joined in
     let F : List ℕ → Type 0 = IsByteFree 62 in
-    let G : List ℕ → Type 0 = IsGap cuts.gap in
+    let G : List ℕ → Type 0 = IsGap splits.gap in
     record {
-      name_bytes = cuts.name_bytes;
-      gap = cuts.gap;
-      joined = cuts.first.joined ∙ ap (λ it. cuts.name_bytes ++ 60 ∷ it) (cuts.last.joined ∙ ap (λ it. email ++ 62 ∷ it) after)
-          ∙ actor_line_append_assoc cuts.name_bytes email cuts.gap time rest;
-      one_line = cuts.one_line;
-      first = cuts.first.first;
-      last = subst F (after ∙ sym (append_assoc cuts.gap time rest)) cuts.last.last;
-      named = cuts.named;
-      spaced = subst G cuts.joined cuts.spaced;
-      timed = cuts.timed;
-      ends = cuts.ends;
+      name_bytes = splits.name_bytes;
+      gap = splits.gap;
+      joined = splits.first.joined ∙ ap (λ it. splits.name_bytes ++ 60 ∷ it) (splits.last.joined ∙ ap (λ it. email ++ 62 ∷ it) after)
+          ∙ actor_line_append_assoc splits.name_bytes email splits.gap time rest;
+      one_line = splits.one_line;
+      first = splits.first.first;
+      last = subst F (after ∙ sym (append_assoc splits.gap time rest)) splits.last.last;
+      named = splits.named;
+      spaced = subst G splits.joined splits.spaced;
+      timed = splits.timed;
+      ends = splits.ends;
     }
 
 -- the bytes after the first `<` of an actor line are its email, gap, time and rest
@@ -73,7 +73,7 @@ malformed_without_closing_bracket line name_bytes after_less_than split free nam
 -- unique decoding of each part
 actor_name_unique : (name_bytes a b : List ℕ) → IsNameOf name_bytes a → IsNameOf name_bytes b → a ≡ b
 actor_name_unique name_bytes a b (inl first) (inl second) =
-    let cut = last_split_unique 32 a [] b [] (All-nil (λ it. it ≢ 32)) (All-nil (λ it. it ≢ 32)) (sym first ∙ second) in cut.0
+    let same_split = last_split_unique 32 a [] b [] (All-nil (λ it. it ≢ 32)) (All-nil (λ it. it ≢ 32)) (sym first ∙ second) in same_split.0
 actor_name_unique name_bytes a b (inl first) (inr second) = absurd (second.1 a first)
 actor_name_unique name_bytes a b (inr first) (inl second) = absurd (first.1 b second)
 actor_name_unique name_bytes a b (inr first) (inr second) = sym first.0 ∙ second.0
@@ -112,14 +112,14 @@ actor_line_unique line name email time rest name' email' time' rest' first secon
     let after_less_than = email ++ 62 ∷ (first.gap ++ (time ++ rest)) in
     let split : SplitsAt 60 line first.name_bytes after_less_than =
     record { joined = first.joined ∙ sym (actor_line_append_assoc first.name_bytes email first.gap time rest); first = first.first } in
-    let cut = actor_line_splits_at_opening_bracket line name' email' time' rest' first.name_bytes after_less_than second split in
+    let same_split = actor_line_splits_at_opening_bracket line name' email' time' rest' first.name_bytes after_less_than second split in
     let F : List ℕ → Type 0 = IsByteFree 62 in
     let close = last_split_unique 62 email (first.gap ++ (time ++ rest)) email' (second.gap ++ (time' ++ rest'))
-    (subst F (append_assoc first.gap time rest) first.last) (subst F (append_assoc second.gap time' rest') second.last) (sym cut.1) in
+    (subst F (append_assoc first.gap time rest) first.last) (subst F (append_assoc second.gap time' rest') second.last) (sym same_split.1) in
     let tails = gap_append_unique first.gap (time ++ rest) second.gap (time' ++ rest') first.spaced second.spaced close.1 in
     let times = time_append_unique time rest time' rest' first.timed second.timed first.ends second.ends tails in
     let N : List ℕ → Type 0 = λ it. IsNameOf it name' in (
-      actor_name_unique first.name_bytes name name' first.named (subst N cut.0 second.named),
+      actor_name_unique first.name_bytes name name' first.named (subst N same_split.0 second.named),
       close.0,
       times.0,
       times.1,

@@ -45,11 +45,11 @@ malformed_time_without_space bytes free seconds offset time =
 pub time_splits_at_space : (bytes prefix rest : List ℕ) (seconds offset : ℤ) → SplitsAt 32 bytes prefix rest → DecodesToTime bytes seconds offset
     → DecodesToSeconds prefix seconds × DecodesToOffset rest offset
 time_splits_at_space bytes prefix rest seconds offset split time =
-    let cut = split_parts_unique 32 time.first time.second prefix rest (seconds_are_space_free time.first seconds time.seconds_bytes) split.first
+    let parts = split_parts_unique 32 time.first time.second prefix rest (seconds_are_space_free time.first seconds time.seconds_bytes) split.first
     (sym time.joined ∙ split.joined) in
     let S : List ℕ → Type 0 = λ it. DecodesToSeconds it seconds in
     let O : List ℕ → Type 0 = λ it. DecodesToOffset it offset in
-    (subst S cut.0 time.seconds_bytes, subst O cut.1 time.offset_bytes)
+    (subst S parts.0 time.seconds_bytes, subst O parts.1 time.offset_bytes)
 
 decimal_decodes_to_seconds : (size : ℕ) → size < 2 ^ 64 → FitsSigned w64 (pos size) → DecodesToSeconds (decimal size) (pos size)
 decimal_decodes_to_seconds size small fits =

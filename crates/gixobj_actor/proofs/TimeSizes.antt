@@ -34,7 +34,7 @@ zeros_lt_decimal_len (suc zeros) number large fits =
 pub decimal_len_ten : (number : ℕ) → 1000000000 ≤ number → number < 10000000000 → number < 2 ^ 64 → length (decimal number) ≡ 10
 decimal_len_ten number large small fits =
     let most = length-decimal-le 10 number (omega arith) (omega arith) fits in
-    let least = zeros_lt_decimal_len 9 number large fits in
+    let minimum = zeros_lt_decimal_len 9 number large fits in
     omega arith
 
 -- an encoded time has a sign if it is negative, its digits, a space, and five bytes of an offset

@@ -34,7 +34,7 @@ impl Time {
         ensures accepts { IsSome result ↔ IsOffset offset }
         ensures value { IfSome result (λ time. (time.seconds ≡ seconds) × (time.offset ≡ offset)) }
     {
-        if offset % 60 == 0 && -GREATEST_OFFSET <= offset && offset <= GREATEST_OFFSET {
+        if offset % 60 == 0 && -MAXIMUM_OFFSET <= offset && offset <= MAXIMUM_OFFSET {
             Some(Time { seconds, offset })
         } else {
             None
@@ -128,7 +128,7 @@ pub fn parse_header(input: &[u8]) -> Option<Time>
 }
 
 /// The maximum offset, 99 hours and 59 minutes, in seconds.
-const GREATEST_OFFSET: i32 = 359_940;
+const MAXIMUM_OFFSET: i32 = 359_940;
 
 /// The length of a space and an encoded offset, in bytes.
 const OFFSET_LEN: u64 = 6;

@@ -1,4 +1,5 @@
--- The last command of a run and its reply; the proofs of `run_and_write` and `RunChanged` use it.
+-- A run with a last command is a run of the others and a step of that command, which gets the last reply; the proofs of
+-- `run_and_write` and `RunChanged` use it.
 use Rattle.std.proofs.Common.{◌≡◌, ◌<◌, ◌↔◌, ◌∙◌, ℕ, suc, List, [], ◌∷◌, ◌++◌, None, Option, Some, ap, arith, length, refl, subst, sym, take}
 use Rattle.std.proofs.lemmas.Bool.{false≢true}
 use Rattle.std.specs.Prelude.{IsSome}

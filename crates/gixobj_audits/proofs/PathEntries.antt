@@ -23,50 +23,50 @@ use Rattle.gixobj_tree.proofs.OneEntry.{entry_unique}
 -- ---- names lead to one entry
 
 -- this entry of the name comes after entries of other names
-record Comes (hash : Kind) (input : List ℕ) (passed : List EntryView) (name : Name) (e : EntryView) : Type 0 where
+record Comes (hash : Kind) (input : List ℕ) (consumed : List EntryView) (name : Name) (e : EntryView) : Type 0 where
   here : List ℕ
   rest : List ℕ
-  passes : runs.Passes (EntryStep hash) tt input passed tt here
+  begins_with : runs.BeginsWithPieces (EntryStep hash) tt input consumed tt here
   begins : BeginsWithEntry hash here e rest
-  others : All (λ x. ¬ IsNamed name x) passed
+  others : All (λ x. ¬ IsNamed name x) consumed
   said : IsNamed name e
 
 comes_of_first_named : (hash : Kind) (input : List ℕ) (name : Name) (e : EntryView) → HasFirstNamed hash input name e
-    → (passed : List EntryView) × Comes hash input passed name e
-comes_of_first_named hash input name e ((_, _, here, rest, (passed, passes, others), begins), said) =
-    (passed, record { here = here; rest = rest; passes = passes; begins = begins; others = others; said = said })
+    → (consumed : List EntryView) × Comes hash input consumed name e
+comes_of_first_named hash input name e ((_, _, here, rest, (consumed, begins_with, others), begins), said) =
+    (consumed, record { here = here; rest = rest; begins_with = begins_with; begins = begins; others = others; said = said })
 
--- an entry at the beginning has the name of the first that was passed
+-- an entry at the beginning has the name of the first consumed entry
 name_at_beginning : (hash : Kind) (input here rest after : List ℕ) (name : Name) (e x : EntryView) → input ≡ here → BeginsWithEntry hash here e rest
     → IsNamed name e → BeginsWithEntry hash input x after → IsNamed name x
 name_at_beginning hash input here rest after name e x same begins said first =
     sym (ap (λ (y : EntryView). y.name)
     (entry_unique hash input e x rest after (subst (λ (at : List ℕ). BeginsWithEntry hash at e rest) (sym same) begins) first).0) ∙ said
 
-comes_unique : (hash : Kind) (input : List ℕ) (name : Name) (passed others : List EntryView) (e it : EntryView) → Comes hash input passed name e
+comes_unique : (hash : Kind) (input : List ℕ) (name : Name) (consumed others : List EntryView) (e it : EntryView) → Comes hash input consumed name e
     → Comes hash input others name it → e ≡ it
 comes_unique hash input name [] [] e it one other =
     (entry_unique hash one.here e it one.rest other.rest one.begins
-    (subst (λ (at : List ℕ). BeginsWithEntry hash at it other.rest) (sym other.passes.1 ∙ one.passes.1) other.begins)).0
+    (subst (λ (at : List ℕ). BeginsWithEntry hash at it other.rest) (sym other.begins_with.1 ∙ one.begins_with.1) other.begins)).0
 comes_unique hash input name [] (x ∷ others) e it one other =
     absurd (All-head (λ (y : EntryView). ¬ IsNamed name y) x others other.others
-    (name_at_beginning hash input one.here one.rest other.passes.1 name e x one.passes.1 one.begins one.said other.passes.2))
-comes_unique hash input name (x ∷ passed) [] e it one other =
-    absurd (All-head (λ (y : EntryView). ¬ IsNamed name y) x passed one.others
-    (name_at_beginning hash input other.here other.rest one.passes.1 name it x other.passes.1 other.begins other.said one.passes.2))
-comes_unique hash input name (x ∷ passed) (y ∷ others) e it one other =
-    let same = (entry_unique hash input x y one.passes.1 other.passes.1 one.passes.2 other.passes.2).1 in
-    comes_unique hash one.passes.1 name passed others e it (record {
+    (name_at_beginning hash input one.here one.rest other.begins_with.1 name e x one.begins_with.1 one.begins one.said other.begins_with.2))
+comes_unique hash input name (x ∷ consumed) [] e it one other =
+    absurd (All-head (λ (y : EntryView). ¬ IsNamed name y) x consumed one.others
+    (name_at_beginning hash input other.here other.rest one.begins_with.1 name it x other.begins_with.1 other.begins other.said one.begins_with.2))
+comes_unique hash input name (x ∷ consumed) (y ∷ others) e it one other =
+    let same = (entry_unique hash input x y one.begins_with.1 other.begins_with.1 one.begins_with.2 other.begins_with.2).1 in
+    comes_unique hash one.begins_with.1 name consumed others e it (record {
       here = one.here;
       rest = one.rest;
-      passes = one.passes.3;
+      begins_with = one.begins_with.3;
       begins = one.begins;
-      others = All-tail (λ (z : EntryView). ¬ IsNamed name z) x passed one.others;
+      others = All-tail (λ (z : EntryView). ¬ IsNamed name z) x consumed one.others;
       said = one.said;
     }) (record {
       here = other.here;
       rest = other.rest;
-      passes = subst (λ (at : List ℕ). runs.Passes (EntryStep hash) tt at others tt other.here) (sym same) other.passes.3;
+      begins_with = subst (λ (at : List ℕ). runs.BeginsWithPieces (EntryStep hash) tt at others tt other.here) (sym same) other.begins_with.3;
       begins = other.begins;
       others = All-tail (λ (z : EntryView). ¬ IsNamed name z) y others other.others;
       said = other.said;
@@ -75,9 +75,9 @@ comes_unique hash input name (x ∷ passed) (y ∷ others) e it one other =
 found_unique : (first : Option StoredObject) (name : Name) (e it : EntryView) → FoundIn first name e → FoundIn first name it → e ≡ it
 found_unique None name e it one other = absurd one
 found_unique (Some tree) name e it one other =
-    let (passed, comes) = comes_of_first_named tree.object_hash tree.bytes name e one.1 in
+    let (consumed, comes) = comes_of_first_named tree.object_hash tree.bytes name e one.1 in
     let (others, also) = comes_of_first_named tree.object_hash tree.bytes name it other.1 in
-    comes_unique tree.object_hash tree.bytes name passed others e it comes also
+    comes_unique tree.object_hash tree.bytes name consumed others e it comes also
 
 no_path_of_nil : (objects : Objects) (first : Option StoredObject) (before : List EntryView) (e : EntryView) → IsPath objects first [] (before ++ e ∷ []) → ⊥
 no_path_of_nil objects first [] e path = path
@@ -122,13 +122,13 @@ first_of_contained hash (x ∷ xs) (t ∷ ts) e all apart (inl is) = (
   (t, refl, subst (λ (y : EntryView). DecodesToEntry hash y t) is all.0),
 )
 first_of_contained hash (x ∷ xs) (t ∷ ts) e all apart (inr has) =
-    let (before, following, here, rest, (passed, on, none), comes) = first_of_contained hash xs ts e all.1 apart.1 has in
+    let (before, following, here, rest, (consumed, on, none), comes) = first_of_contained hash xs ts e all.1 apart.1 has in
     let other : x.name ≡ e.name → ⊥ = of_contained (λ (y : EntryView). x.name ≢ y.name) xs e apart.0 has in (
       before,
       following,
       here,
       rest,
-      (x ∷ passed, (tt, concat ts, (t, refl, all.0), on), All-cons (λ (y : EntryView). IsNamed e.name y → ⊥) x passed other none),
+      (x ∷ consumed, (tt, concat ts, (t, refl, all.0), on), All-cons (λ (y : EntryView). IsNamed e.name y → ⊥) x consumed other none),
       comes,
     )
 

@@ -1,4 +1,5 @@
--- The files of the written root of a run, and the changes from the stored root to it; the proofs of `changes_of_run` and `run_and_write` use it.
+-- The written root of a run has the files of its steps, and the changes from the stored root lead to them; the proofs
+-- of `changes_of_run` and `run_and_write` use it.
 use Rattle.std.proofs.Common.{◌≡◌, ◌≢◌, ◌⊎◌, ◌∙◌, ◌≤◌, ℕ, Bool, true, false, List, [], ◌∷◌, None, Some, ap, length, refl, subst, sym, take}
 use Rattle.std.specs.Prelude.{IsFalse}
 use Rattle.gix_object.specs.Bases.{HasBases}
@@ -75,7 +76,7 @@ module _ {S E : Type 0} (model : StoreModel S) (answers : Answers E) (start rema
         let parts = writes_agree T (model.objects start.store) (length replies) written agrees
         (written_at_last replies (reply.Edit (edit_reply.Written written))) in
         let it = last.reply.written in
-        not_null_of_there T written.id it.own (tree_at_last_pair T written.trees.items it.below (written.id, it.own) it.last parts.1)
+        not_null_of_there T written.id it.written_tree (tree_at_last_pair T written.trees.items it.below (written.id, it.written_tree) it.last parts.1)
 
 -- what is known of the replies and the commands as a program has them
 module _ {S E : Type 0} (model : StoreModel S) (answers : Answers E) (start remaining : State S) (commands all_commands : List Command)

@@ -145,7 +145,8 @@ module _ {S R : Type 0} (model : StoreModel S) (other_model : StoreModel R) (tre
       let one = emits_unique (tree_digest hash) (open_dirs h.edited) (open_dirs k.edited) (open_bases h.edited) (open_bases k.edited)
       it.saved its.saved it.trees.items its.trees.items mid.dirs mid.bases
       (ids_by_digest hash it.trees.items tt tt a.called) (ids_by_digest hash its.trees.items tt tt b.called) a.emitted b.emitted in
-      let pair : (it.id, a.own) ≡ (its.id, b.own) = snoc_injective a.below b.below (it.id, a.own) (its.id, b.own) (sym a.last ∙ (one.0 ∙ b.last)) in
+      let pair : (it.id, a.written_tree) ≡ (its.id, b.written_tree) = snoc_injective a.below b.below (it.id, a.written_tree) (its.id, b.written_tree)
+      (sym a.last ∙ (one.0 ∙ b.last)) in
       let dirs : AreSameDirs (open_dirs h.write.between) (open_dirs k.write.between) = λ at. ap (λ (m : DirMap). map.get m at) a.dirs
       ∙ (ap (λ (p : Pair). map.get (root_alone p.1) at) pair ∙ sym (ap (λ (m : DirMap). map.get m at) b.dirs)) in
       record {

@@ -23,21 +23,21 @@ pub(crate) enum Command {
 
 /// Returns the command of the process. Fails with `Usage` if the arguments name none.
 pub(crate) fn process_command<R: Env + AllocGlobal>(rt: &R) -> Result<Command, Fault> {
-    let mut arguments = env::args(rt)?;
-    let _ = arguments.next();
-    let words: Vec<String> = arguments.collect(rt.alloc())?;
-    match command_of(words.as_slice()) {
+    let mut remaining = env::args(rt)?;
+    let _ = remaining.next();
+    let arguments: Vec<String> = remaining.collect(rt.alloc())?;
+    match command_of(arguments.as_slice()) {
         Some(command) => Ok(command),
         None => Err(Fault::Usage),
     }
 }
 
 /// Returns the command that the arguments name, or `None`. An id is in hex, of either case.
-pub(crate) fn command_of(words: &[String]) -> Option<Command>
-    ensures found { IfSome result (NamesCommand (map string_bytes words.now)) }
-    ensures none { IfNone result (NamesNoCommand (map string_bytes words.now)) }
+pub(crate) fn command_of(arguments: &[String]) -> Option<Command>
+    ensures found { IfSome result (NamesCommand (map string_bytes arguments.now)) }
+    ensures none { IfNone result (NamesNoCommand (map string_bytes arguments.now)) }
 {
-    match words {
+    match arguments {
         [name] => command_alone(name),
         [name, id] => command_of_id(name, id),
         [name, from, to] => command_of_ids(name, from, to),
@@ -89,9 +89,9 @@ fn command_of_ids(name: &String, from: &String, to: &String) -> Option<Command>
 }
 
 /// Returns the id of an argument, or `None` if it is no hex of an id.
-fn id_of(word: &String) -> Option<ObjectId>
-    ensures found { IfSome result (IsIdArgument (string_bytes word.now)) }
-    ensures none { IfNone result (NamesNoId (string_bytes word.now)) }
+fn id_of(argument: &String) -> Option<ObjectId>
+    ensures found { IfSome result (IsIdArgument (string_bytes argument.now)) }
+    ensures none { IfNone result (NamesNoId (string_bytes argument.now)) }
 {
-    ObjectId::from_hex(word.as_bytes())
+    ObjectId::from_hex(argument.as_bytes())
 }

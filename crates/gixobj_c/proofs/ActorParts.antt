@@ -28,9 +28,10 @@ name_is_prefix line actor rest is =
 email_joined : (line before after : List ℕ) (actor : ActorView) (rest : List ℕ) (is : IsActorLineOf line actor rest) → SplitsAt 60 line before after
     → after ≡ actor.email ++ after_email actor.name actor.email actor.time rest line is
 email_joined line before after actor rest is split =
-    let cut = split_parts_unique 60 before after is.name_bytes (actor.email ++ after_email actor.name actor.email actor.time rest line is) split.first is.first
+    let parts = split_parts_unique 60 before after is.name_bytes (actor.email ++ after_email actor.name actor.email actor.time rest line is) split.first
+    is.first
     (sym split.joined ∙ line_joined line actor.name actor.email actor.time rest is) in
-    cut.1
+    parts.1
 
 pub email_fits : (line before after : List ℕ) (actor : ActorView) (rest : List ℕ) → IsActorLineOf line actor rest → SplitsAt 60 line before after
     → length actor.email ≤ length after

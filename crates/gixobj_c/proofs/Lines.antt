@@ -1,4 +1,5 @@
--- Positions of the parts of a commit's lines.
+-- The value of each line of a commit is at the offset and of the length that the line's token says; `token_of_line`,
+-- `extra_header` and `gixobj_commit_token` use it, and so do the proofs of tags.
 use Rattle.std.proofs.Common.{◌≡◌, ◌≤◌, ◌+◌, ◌-◌, ℕ, List, [], ◌∷◌, ◌++◌, ap, append_assoc, arith, drop, length, length-append, refl, subst, sym, take, ◌∙◌}
 use Rattle.std.proofs.lemmas.List.{append-nil, drop-drop, drop_at, length-drop, take_at}
 use Rattle.std.specs.List.{flat_map}

@@ -13,8 +13,12 @@ use Rattle.gixobj_text.specs.Titles.{SplitsTitle, summary_of}
 use Rattle.gixobj_text.specs.declared.commit.message.MessageRef.{MessageRef}
 
 title_prefix : (message title : List ℕ) (body : Option (List ℕ)) → SplitsTitle message title body → BeginsWithPiece message title
-title_prefix message title (Some body) (cut, some) = record { rest = cut.here.first ++ cut.here.second ++ body; joined = cut.here.joined ∙ simp append_assoc }
-title_prefix message title None (inl cut) = record { rest = cut.here.first ++ cut.here.second ++ []; joined = cut.here.joined ∙ simp append_assoc }
+title_prefix message title (Some body) (splits, some) = record {
+  rest = splits.here.first ++ splits.here.second ++ body;
+  joined = splits.here.joined
+      ∙ simp append_assoc;
+}
+title_prefix message title None (inl splits) = record { rest = splits.here.first ++ splits.here.second ++ []; joined = splits.here.joined ∙ simp append_assoc }
 title_prefix message title None (inr (same, none)) = record { rest = []; joined = sym same ∙ sym (append-nil title) }
 
 pub title_is_prefix : (message : List ℕ) (parts : MessageRef) → SplitsTitle message (bstr_bytes parts.title) (bytes_if_some parts.body)
@@ -22,10 +26,10 @@ pub title_is_prefix : (message : List ℕ) (parts : MessageRef) → SplitsTitle 
 title_is_prefix message parts split = title_prefix message (bstr_bytes parts.title) (bytes_if_some parts.body) split
 
 body_before : (message title body : List ℕ) → SplitsTitle message title (Some body) → HasPieceBefore message body 0
-body_before message title body (cut, some) =
-    let flat : title ++ cut.here.first ++ cut.here.second ++ body ≡ (title ++ cut.here.first ++ cut.here.second) ++ (body ++ []) =
+body_before message title body (splits, some) =
+    let flat : title ++ splits.here.first ++ splits.here.second ++ body ≡ (title ++ splits.here.first ++ splits.here.second) ++ (body ++ []) =
     simp (append_assoc, append-nil) in
-    record { prefix = title ++ cut.here.first ++ cut.here.second; rest = []; joined = cut.here.joined ∙ flat; remaining = refl }
+    record { prefix = title ++ splits.here.first ++ splits.here.second; rest = []; joined = splits.here.joined ∙ flat; remaining = refl }
 
 split_of : (message : List ℕ) (parts : MessageRef) (body : Option BStr) → SplitsTitle message (bstr_bytes parts.title) (bytes_if_some parts.body)
     → parts.body ≡ body → SplitsTitle message (bstr_bytes parts.title) (bytes_if_some body)

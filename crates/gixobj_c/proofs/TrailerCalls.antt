@@ -1,4 +1,4 @@
--- The trailers that a search for an index passes, and what is written of the found one.
+-- The trailers that a search for an index consumes, and what is written of the found one.
 use Rattle.std.proofs.Common.{◌≡◌, ◌≤◌, ◌+◌, ◌++◌, ℕ, List, [], ap, append_assoc, arith, drop, inl, length, refl, subst, sym, ◌∙◌}
 use Rattle.std.proofs.lemmas.List.{drop-drop, length-drop}
 use Rattle.std.specs.Prelude.{Err, None, Ok, Result, Some}
@@ -20,37 +20,38 @@ last_lines_trans first second third one other = record {
       ∙ sym (append_assoc one.skipped other.skipped (lines_of third));
 }
 
--- the first trailers of the message were passed, and the others remain, on the last lines of the block
-pub record HasPassed (message : List ℕ) (passed : ℕ) (it : Trailers) : Type 0 where
+-- the first trailers of the message are consumed, and the others remain, on the last lines of the block
+pub record HasConsumed (message : List ℕ) (consumed : ℕ) (it : Trailers) : Type 0 where
   pub block : List ℕ
   pub has : HasTrailerBlock message block
   pub last_lines : HasLastLines block (remaining_bytes it)
-  pub rest : drop passed (trailers_of_bytes block) ≡ remaining_trailers it
+  pub rest : drop consumed (trailers_of_bytes block) ≡ remaining_trailers it
 
-pub passed_none : (message : List ℕ) (n : ℕ) (it : Trailers) → HasTrailerBlock message (remaining_bytes it) → n ≡ 0 → HasPassed message n it
-passed_none message n it has none = record {
+pub has_consumed_none : (message : List ℕ) (n : ℕ) (it : Trailers) → HasTrailerBlock message (remaining_bytes it) → n ≡ 0 → HasConsumed message n it
+has_consumed_none message n it has none = record {
   block = remaining_bytes it;
   has = has;
   last_lines = record { skipped = []; joined = refl };
   rest = ap (λ (k : ℕ). drop k (remaining_trailers it)) none;
 }
 
-pub passed_next : (message : List ℕ) (passed next : ℕ) (before after : Trailers) (answer : Result TrailerRef OutOfMemory) (trailer : TrailerRef)
-    → HasPassed message passed before → NextTrailer before (Some answer) after → answer ≡ Ok trailer → next ≡ passed + 1
-    → HasPassed message next after
-passed_next message passed next before after answer trailer it steps is same =
+pub has_consumed_next : (message : List ℕ) (consumed next : ℕ) (before after : Trailers) (answer : Result TrailerRef OutOfMemory) (trailer : TrailerRef)
+    → HasConsumed message consumed before → NextTrailer before (Some answer) after → answer ≡ Ok trailer → next ≡ consumed + 1
+    → HasConsumed message next after
+has_consumed_next message consumed next before after answer trailer it steps is same =
     let step : NextTrailer before (Some (Ok trailer)) after = subst (λ (it : Result TrailerRef OutOfMemory). NextTrailer before (Some it) after) is steps in
     record {
       block = it.block;
       has = it.has;
       last_lines = last_lines_trans it.block (remaining_bytes before) (remaining_bytes after) it.last_lines step.3;
-      rest = ap (λ (n : ℕ). drop n (trailers_of_bytes it.block)) same ∙ sym (drop-drop 1 passed (trailers_of_bytes it.block)) ∙ ap (drop 1) (it.rest ∙ step.0);
+      rest = ap (λ (n : ℕ). drop n (trailers_of_bytes it.block)) same ∙ sym (drop-drop 1 consumed (trailers_of_bytes it.block))
+          ∙ ap (drop 1) (it.rest ∙ step.0);
     }
 
-pub trailer_of_next : (message : List ℕ) (passed index : ℕ) (before after : Trailers) (answer : Result TrailerRef OutOfMemory) (trailer : TrailerRef)
-    → HasPassed message passed before → NextTrailer before (Some answer) after → answer ≡ Ok trailer → passed ≡ index
+pub trailer_of_next : (message : List ℕ) (consumed index : ℕ) (before after : Trailers) (answer : Result TrailerRef OutOfMemory) (trailer : TrailerRef)
+    → HasConsumed message consumed before → NextTrailer before (Some answer) after → answer ≡ Ok trailer → consumed ≡ index
     → HasTrailerAt message index (trailer_view trailer)
-trailer_of_next message passed index before after answer trailer it steps is same =
+trailer_of_next message consumed index before after answer trailer it steps is same =
     let step : NextTrailer before (Some (Ok trailer)) after = subst (λ (it : Result TrailerRef OutOfMemory). NextTrailer before (Some it) after) is steps in
     record {
       trailers = trailers_of_bytes it.block;
@@ -59,25 +60,25 @@ trailer_of_next message passed index before after answer trailer it steps is sam
       found = ap (λ (n : ℕ). drop n (trailers_of_bytes it.block)) (sym same) ∙ it.rest ∙ step.0;
     }
 
-pub no_trailer_of_passed : (message : List ℕ) (passed index : ℕ) (before after : Trailers) → HasPassed message passed before
-    → NextTrailer before None after → passed ≤ index → HasNoTrailerAt message index
-no_trailer_of_passed message passed index before after it step less =
-    let none : length (drop passed (trailers_of_bytes it.block)) ≡ 0 = ap length (it.rest ∙ step.0) in
-    (trailers_of_bytes it.block, (it.block, it.has, refl), omega (arith, none, length-drop passed (trailers_of_bytes it.block), less))
+pub no_trailer_of_has_consumed : (message : List ℕ) (consumed index : ℕ) (before after : Trailers) → HasConsumed message consumed before
+    → NextTrailer before None after → consumed ≤ index → HasNoTrailerAt message index
+no_trailer_of_has_consumed message consumed index before after it step less =
+    let none : length (drop consumed (trailers_of_bytes it.block)) ≡ 0 = ap length (it.rest ∙ step.0) in
+    (trailers_of_bytes it.block, (it.block, it.has, refl), omega (arith, none, length-drop consumed (trailers_of_bytes it.block), less))
 
-pub allocation_of_next : (message : List ℕ) (passed index : ℕ) (before after : Trailers) (answer : Result TrailerRef OutOfMemory) (error : OutOfMemory)
-    → HasPassed message passed before → NextTrailer before (Some answer) after → answer ≡ Err error → passed ≤ index
+pub allocation_of_next : (message : List ℕ) (consumed index : ℕ) (before after : Trailers) (answer : Result TrailerRef OutOfMemory) (error : OutOfMemory)
+    → HasConsumed message consumed before → NextTrailer before (Some answer) after → answer ≡ Err error → consumed ≤ index
     → NeedsTrailerAllocation message index
-allocation_of_next message passed index before after answer error it steps is less =
+allocation_of_next message consumed index before after answer error it steps is less =
     let step : NextTrailer before (Some (Err error)) after = subst (λ (it : Result TrailerRef OutOfMemory). NextTrailer before (Some it) after) is steps in (
-      passed,
+      consumed,
       less,
       record {
         block = it.block;
         rest = remaining_bytes before;
         has = it.has;
         last_lines = it.last_lines;
-        passed = it.rest;
+        consumed = it.rest;
         folded = step.0;
       },
     )

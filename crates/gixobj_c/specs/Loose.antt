@@ -25,7 +25,7 @@ pub record HasInvalidSize (input : List ℕ) : Type 0 where
 -- why the input begins with no loose header
 abbrev pub IsLooseHeaderStatus : List ℕ → ℕ → Type 0
 IsLooseHeaderStatus input status = ((status ≡ malformed) × (IsByteFree space input ⊎ HasNoZeroByte input))
-    ⊎ (((status ≡ unknown_kind) × ((word : List ℕ) × HasUnknownKind input word))
+    ⊎ (((status ≡ unknown_kind) × ((token : List ℕ) × HasUnknownKind input token))
     ⊎ ((status ≡ invalid_size) × HasInvalidSize input))
 
 -- the loose header with which the input begins, or why there is none

@@ -25,7 +25,7 @@ pub record IsFoldedTrailerAt (message : List ℕ) (index : ℕ) : Type 0 where
   pub rest : List ℕ
   pub has : HasTrailerBlock message block
   pub last_lines : HasLastLines block rest
-  pub passed : drop index (trailers_of_bytes block) ≡ trailers_of_bytes rest
+  pub consumed : drop index (trailers_of_bytes block) ≡ trailers_of_bytes rest
   pub folded : first_is_folded (lines_of rest) ≡ true
 
 -- the trailer with this index, or one before it, has a value of several lines, which allocates

@@ -19,10 +19,10 @@ use std::alloc::Global;
 pub extern "C" fn gixobj_tag_signature(tag: &[u8], out: &mut Span) -> u32
     ensures { IsTagSignatureCall tag.now out.old out.new result }
 {
-    let Some((place, _)) = signature::find(tag) else {
+    let Some((position, _)) = signature::find(tag) else {
         return NOT_FOUND;
     };
-    let (_, signature) = tag.split_at(place);
+    let (_, signature) = tag.split_at(position);
     let span = span_before(tag, signature, 0);
     *out = span;
     DONE

@@ -52,6 +52,6 @@ module _ {S E : Type 0} (model : StoreModel S) (errors : KeepErrors S) (answers 
   cause_of_decided old new edits commands replies shown index r none is run causes same found at =
       let it = decided model answers old new edits replies (reply.Edit r) none
       (subst (λ (cs : List Command). IsRun model answers old cs replies new) is run) in
-      let place : it.0 ≡ index = position_or_len_eq_position replies shown index it.0 same found it.1 it.2 in
+      let split : it.0 ≡ index = position_or_len_eq_position replies shown index it.0 same found it.1 it.2 in
       cause_at old new edits replies index r (subst (λ (cs : List Command). HaveRunCauses model errors answers old cs replies new) is causes)
-      (it.1 ∙ place) (subst (λ (k : ℕ). k < length replies) place it.2) (sym at)
+      (it.1 ∙ split) (subst (λ (k : ℕ). k < length replies) split it.2) (sym at)

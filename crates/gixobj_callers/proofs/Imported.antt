@@ -100,14 +100,17 @@ module _ {S E : Type 0} (model : StoreModel S) (answers : Answers E) (trees_of :
         → AgreesWithPairs T written.trees.items → SameFiles (EditorFiles T n new) (NamedFiles T n written.id)
     files_remaining old new edits written after pairs =
         let it = after.write in
-        let own = it.written.own in
-        let root : SameFiles (EditorFiles T n it.between) (Files T n own) =
-        subst (λ (dirs : DirMap). SameFiles (OpenFiles T n (λ path. map.get dirs path)) (Files T n own)) (sym it.written.dirs) (root_alone_files T n own) in
-        let there : T.tree_at written.id ≡ Some own = tree_at_last_pair T written.trees.items it.written.below (written.id, own) it.written.last pairs in
+        let written_tree = it.written.written_tree in
+        let root : SameFiles (EditorFiles T n it.between) (Files T n written_tree) =
+        subst (λ (dirs : DirMap). SameFiles (OpenFiles T n (λ path. map.get dirs path)) (Files T n written_tree)) (sym it.written.dirs)
+        (root_alone_files T n written_tree) in
+        let there : T.tree_at written.id ≡ Some written_tree = tree_at_last_pair T written.trees.items it.written.below
+        (written.id, written_tree) it.written.last pairs in
         subst (λ (s : State S). SameFiles (EditorFiles T n s) (NamedFiles T n written.id)) (sym it.rest)
         (same_files_trans _ _ _ root (subst
-        (λ (found : Option (List EntryView)). SameFiles (Files T n own) (λ path mode id. MatchOption found ⊥ (λ es. Files T n es path mode id))) (sym there)
-        (same_files_refl (Files T n own))))
+        (λ (found : Option (List EntryView)). SameFiles (Files T n written_tree) (λ path mode id. MatchOption found ⊥ (λ es. Files T n es path mode id)))
+        (sym there)
+        (same_files_refl (Files T n written_tree))))
 
     -- after the write the root alone is open
     pub bases_remaining : (old new : State S) (edits : List Edit) (written : Written) → HasWriteReply model answers old edits (edit_reply.Written written) new

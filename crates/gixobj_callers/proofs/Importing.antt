@@ -64,7 +64,7 @@ module _ {S E : Type 0} (model : StoreModel S) (answers : Answers E) where
     before = it ∷ is.before;
     failed_edit = is.failed_edit;
     following = is.following;
-    place = ap (λ (es : List Edit). it ∷ es) is.place;
+    split = ap (λ (es : List Edit). it ∷ es) is.split;
     number = ap suc is.number;
     reached = is.reached;
     done = (between, first, is.done);
@@ -132,7 +132,7 @@ module _ {S E : Type 0} (model : StoreModel S) (answers : Answers E) where
         before = [];
         failed_edit = it;
         following = edits;
-        place = refl;
+        split = refl;
         number = refl;
         reached = old;
         done = refl;
@@ -156,9 +156,9 @@ module _ {S E : Type 0} (model : StoreModel S) (answers : Answers E) where
       → reply.Edit r ≡ get_or replies index (reply.Edit r) → Decides model answers old edits index r new
   decides old new edits commands replies shown index r none is run same found at =
       let it = decided old new edits replies (reply.Edit r) none (subst (λ (cs : List Command). IsRun model answers old cs replies new) is run) in
-      let place : it.0 ≡ index = position_or_len_eq_position replies shown index it.0 same found it.1 it.2 in
-      subst (λ (k : ℕ). Decides model answers old edits k r new) place
-      (it.3 (subst (λ (k : ℕ). get_or replies k (reply.Edit r) ≡ reply.Edit r) (sym place) (sym at)))
+      let split : it.0 ≡ index = position_or_len_eq_position replies shown index it.0 same found it.1 it.2 in
+      subst (λ (k : ℕ). Decides model answers old edits k r new) split
+      (it.3 (subst (λ (k : ℕ). get_or replies k (reply.Edit r) ≡ reply.Edit r) (sym split) (sym at)))
 
   pub is_found : (old new : State S) (edits : List Edit) (commands : List Command) (replies shown : List (Reply E)) → (Contains edits edit.Write → ⊥)
       → commands ≡ edits_and_write edits
@@ -173,5 +173,5 @@ module _ {S E : Type 0} (model : StoreModel S) (answers : Answers E) where
       → ((x : EditReply E) → r ≡ reply.Edit x → ⊥) → ⊥
   is_by_an_edit old new edits commands replies shown index r none is run same found at other =
       let it = decided old new edits replies r none (subst (λ (cs : List Command). IsRun model answers old cs replies new) is run) in
-      let place : it.0 ≡ index = position_or_len_eq_position replies shown index it.0 same found it.1 it.2 in
-      by_an_edit old new edits it.0 r other (it.3 (subst (λ (k : ℕ). get_or replies k r ≡ r) (sym place) (sym at)))
+      let split : it.0 ≡ index = position_or_len_eq_position replies shown index it.0 same found it.1 it.2 in
+      by_an_edit old new edits it.0 r other (it.3 (subst (λ (k : ℕ). get_or replies k r ≡ r) (sym split) (sym at)))

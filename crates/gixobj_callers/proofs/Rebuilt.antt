@@ -92,12 +92,12 @@ module _ {S E : Type 0} (model : StoreModel S) (answers : Answers E) (store : S)
       → IsRun model answers start commands replies remaining → AreReplies model answers store object_hash commands replies
   replied start remaining replies new run = (remaining, subst (λ (state : State S). IsRun model answers state commands replies remaining) new run)
 
-  pub compared : (start remaining : State S) (replies : List (Reply E)) (place other : ℕ) (same : Bool) (first second : Written)
+  pub compared : (start remaining : State S) (replies : List (Reply E)) (position other : ℕ) (same : Bool) (first second : Written)
       → start ≡ new_state [] store object_hash → IsRun model answers start commands replies remaining
       → OneId model commands start replies
-      → written_at replies place ≡ Some first → written_at replies other ≡ Some second → IsTrue same ↔ (first.id ≡ second.id)
-      → IsCompared model answers store object_hash commands place other same
-  compared start remaining replies place other same first second new run one_id at_first at_second ids = record {
+      → written_at replies position ≡ Some first → written_at replies other ≡ Some second → IsTrue same ↔ (first.id ≡ second.id)
+      → IsCompared model answers store object_hash commands position other same
+  compared start remaining replies position other same first second new run one_id at_first at_second ids = record {
     replies = replies;
     run = replied start remaining replies new run;
     first = first;
@@ -106,43 +106,43 @@ module _ {S E : Type 0} (model : StoreModel S) (answers : Answers E) (store : S)
     second_at = at_second;
     ids = ids;
     files = λ T plain.
-        let its_own = subst (λ (state : State S). IsPlainRun T (model.objects state.store) state (take (up_to place other) commands)
-        (take (up_to place other) replies)) (sym new) plain in
-        let seen = known_at model commands start replies one_id T place other its_own first second at_first at_second in
+        let its_own = subst (λ (state : State S). IsPlainRun T (model.objects state.store) state (take (up_to position other) commands)
+        (take (up_to position other) replies)) (sym new) plain in
+        let seen = known_at model commands start replies one_id T position other its_own first second at_first at_second in
         ((λ yes. seen.0 (ids.0 yes)), λ equal. ids.1 (seen.1 equal));
   }
 
   -- the result by ids that were found in equal lists of replies
-  pub is_reported : (start remaining : State S) (replies shown again : List (Reply E)) (place other : ℕ) (same : Bool) (id its_id : ObjectId)
+  pub is_reported : (start remaining : State S) (replies shown again : List (Reply E)) (position other : ℕ) (same : Bool) (id its_id : ObjectId)
       → start ≡ new_state [] store object_hash → IsRun model answers start commands replies remaining
       → OneId model commands start replies
-      → shown ≡ replies → again ≡ replies → NamesWritten shown place id → NamesWritten again other its_id → IsTrue same ↔ (id ≡ its_id)
-      → IsCompared model answers store object_hash commands place other same
-  is_reported start remaining replies shown again place other same id its_id new run one_id is_shown is_again (first, first_at, first_is)
+      → shown ≡ replies → again ≡ replies → NamesWritten shown position id → NamesWritten again other its_id → IsTrue same ↔ (id ≡ its_id)
+      → IsCompared model answers store object_hash commands position other same
+  is_reported start remaining replies shown again position other same id its_id new run one_id is_shown is_again (first, first_at, first_is)
       (second, second_at, second_is) ids =
-      let at_first : written_at replies place ≡ Some first = subst (λ (rs : List (Reply E)). written_at rs place ≡ Some first) is_shown first_at in
+      let at_first : written_at replies position ≡ Some first = subst (λ (rs : List (Reply E)). written_at rs position ≡ Some first) is_shown first_at in
       let at_second : written_at replies other ≡ Some second =
       subst (λ (rs : List (Reply E)). written_at rs other ≡ Some second) is_again second_at in
-      compared start remaining replies place other same first second new run one_id at_first at_second
+      compared start remaining replies position other same first second new run one_id at_first at_second
       ((λ yes. first_is ∙ ids.0 yes ∙ sym second_is), λ equal. ids.1 (sym first_is ∙ equal ∙ second_is))
 
   -- the first index has no write
-  pub none_at_first : (start remaining : State S) (replies shown : List (Reply E)) (place other : ℕ) (error : CompareError)
+  pub none_at_first : (start remaining : State S) (replies shown : List (Reply E)) (position other : ℕ) (error : CompareError)
       → start ≡ new_state [] store object_hash → IsRun model answers start commands replies remaining
-      → shown ≡ replies → error ≡ compare.NoWrite place → written_at shown place ≡ None
-      → IsComparisonError model answers store object_hash commands place other error
-  none_at_first start remaining replies shown place other error new run is_shown is none =
-      let here : written_at replies place ≡ None = subst (λ (rs : List (Reply E)). written_at rs place ≡ None) is_shown none in
-      subst (λ (e : CompareError). IsComparisonError model answers store object_hash commands place other e) (sym is)
+      → shown ≡ replies → error ≡ compare.NoWrite position → written_at shown position ≡ None
+      → IsComparisonError model answers store object_hash commands position other error
+  none_at_first start remaining replies shown position other error new run is_shown is none =
+      let here : written_at replies position ≡ None = subst (λ (rs : List (Reply E)). written_at rs position ≡ None) is_shown none in
+      subst (λ (e : CompareError). IsComparisonError model answers store object_hash commands position other e) (sym is)
       (replies, replied start remaining replies new run, (here, inl refl))
 
   -- the first index has a write, the second has none
-  pub none_at_second : (start remaining : State S) (replies shown again : List (Reply E)) (place other : ℕ) (id : ObjectId) (error : CompareError)
+  pub none_at_second : (start remaining : State S) (replies shown again : List (Reply E)) (position other : ℕ) (id : ObjectId) (error : CompareError)
       → start ≡ new_state [] store object_hash → IsRun model answers start commands replies remaining
-      → shown ≡ replies → again ≡ replies → NamesWritten shown place id → error ≡ compare.NoWrite other → written_at again other ≡ None
-      → IsComparisonError model answers store object_hash commands place other error
-  none_at_second start remaining replies shown again place other id error new run is_shown is_again (first, first_at, first_is) is none =
+      → shown ≡ replies → again ≡ replies → NamesWritten shown position id → error ≡ compare.NoWrite other → written_at again other ≡ None
+      → IsComparisonError model answers store object_hash commands position other error
+  none_at_second start remaining replies shown again position other id error new run is_shown is_again (first, first_at, first_is) is none =
       let here : written_at replies other ≡ None = subst (λ (rs : List (Reply E)). written_at rs other ≡ None) is_again none in
-      let there : written_at replies place ≡ Some first = subst (λ (rs : List (Reply E)). written_at rs place ≡ Some first) is_shown first_at in
-      subst (λ (e : CompareError). IsComparisonError model answers store object_hash commands place other e) (sym is)
+      let there : written_at replies position ≡ Some first = subst (λ (rs : List (Reply E)). written_at rs position ≡ Some first) is_shown first_at in
+      subst (λ (e : CompareError). IsComparisonError model answers store object_hash commands position other e) (sym is)
       (replies, replied start remaining replies new run, (here, inr (refl, λ missing. let both : Some first ≡ None = sym there ∙ missing in cc both)))

@@ -11,7 +11,7 @@ use Rattle.gix_object.specs.Emission.{Emits, EmitsBelow, EmitsEntries, left_out_
 use Rattle.gix_object.specs.Opening.{Dirs, HasAt, IsOpened, in_dir}
 use Rattle.gix_object.specs.hash.hash.object_id.ObjectId.{ObjectId}
 use Rattle.gixobj_callers.proofs.Once.{IsOf, IsPerhaps, Starts, once_under_append_append, entry_name_ne, starts_under_append_append, starts_cons, under}
-use Rattle.gixobj_callers.specs.Uploads.{IsChanged, IsDivided, IsOwnTree, IsSorted, IsUnchanged, Once, Sent, loose_pair_of, path_of}
+use Rattle.gixobj_callers.specs.Uploads.{IsChanged, IsDivided, IsWrittenTree, IsSorted, IsUnchanged, Once, Sent, loose_pair_of, path_of}
 
 -- ---- lists
 
@@ -58,32 +58,43 @@ root_is_open_of_closed (name ∷ path) dirs entries closed is =
 -- ---- a directory in a longer list of pairs
 
 module _ (dirs bases : Dirs) where
-  own_among : (pairs head part back : List Pair) → pairs ≡ head ++ (part ++ back) → (path : Path) (own : List EntryView)
-      → IsOwnTree dirs bases part path own
-      → IsOwnTree dirs bases pairs path own
-  own_among pairs head part back is path own it = record {
+  written_tree_among : (pairs head part back : List Pair) → pairs ≡ head ++ (part ++ back) → (path : Path) (written_tree : List EntryView)
+      → IsWrittenTree dirs bases part path written_tree
+      → IsWrittenTree dirs bases pairs path written_tree
+  written_tree_among pairs head part back is path written_tree it = record {
     prefix = head ++ it.prefix;
     below = it.below;
     back = it.back ++ back;
     count = it.count;
-    place = is ∙ ap (λ (ps : List Pair). head ++ (ps ++ back)) it.place ∙ simp append_assoc;
+    split = is ∙ ap (λ (ps : List Pair). head ++ (ps ++ back)) it.split ∙ simp append_assoc;
     emits = it.emits;
   }
 
   changed_among : (pairs head part back : List Pair) → pairs ≡ head ++ (part ++ back) → (it : Sent) → IsChanged dirs bases part it
       → IsChanged dirs bases pairs it
   changed_among pairs head part back is it changed =
-      record { own = own_among pairs head part back is it.path it.pair.1 changed.own; filled = changed.filled; other = changed.other }
+      record {
+        written_tree = written_tree_among pairs head part back is it.path it.pair.1 changed.written_tree;
+        filled = changed.filled;
+        other =
+            changed.other;
+      }
 
   unchanged_among : (pairs head part back : List Pair) → pairs ≡ head ++ (part ++ back) → (path : Path) → IsUnchanged dirs bases part path
       → IsUnchanged dirs bases pairs path
   unchanged_among pairs head part back is path same =
-      record { tree = same.tree; own = own_among pairs head part back is path same.tree same.own; filled = same.filled; same = same.same }
+      record {
+        tree = same.tree;
+        written_tree = written_tree_among pairs head part back is path same.tree same.written_tree;
+        filled = same.filled;
+        same =
+            same.same;
+      }
 
   sorted_among : (pairs head part back : List Pair) → pairs ≡ head ++ (part ++ back) → (sent : List Sent) (spared : List Path) (path : Path)
       → IsSorted dirs bases part sent spared path → IsSorted dirs bases pairs sent spared path
   sorted_among pairs head part back is sent spared path =
-      ⊎_elim inl (λ stays. inr (⊎_elim inl (λ bare. inr (own_among pairs head part back is path [] bare)) stays))
+      ⊎_elim inl (λ stays. inr (⊎_elim inl (λ bare. inr (written_tree_among pairs head part back is path [] bare)) stays))
 
   sorted_after : (pairs : List Pair) (more sent : List Sent) (others spared : List Path) (path : Path) → IsSorted dirs bases pairs sent spared path
       → IsSorted dirs bases pairs (more ++ sent) (others ++ spared) path
@@ -151,25 +162,36 @@ paths_map_inside name (it ∷ sent) = ap (λ (ps : List Path). (name ∷ it.path
 -- ---- the directories in one, that one, and those after it
 
 module _ (dirs bases : Dirs) (name : List ℕ) where
-  own_inside : (part : List Pair) (path : Path) (own : List EntryView) → IsOwnTree (in_dir name dirs) (in_dir name bases) part path own
-      → IsOwnTree dirs bases part (name ∷ path) own
-  own_inside part path own it =
-      record { prefix = it.prefix; below = it.below; back = it.back; count = it.count; place = it.place; emits = it.emits }
+  written_tree_inside : (part : List Pair) (path : Path) (written_tree : List EntryView)
+      → IsWrittenTree (in_dir name dirs) (in_dir name bases) part path written_tree
+      → IsWrittenTree dirs bases part (name ∷ path) written_tree
+  written_tree_inside part path written_tree it =
+      record { prefix = it.prefix; below = it.below; back = it.back; count = it.count; split = it.split; emits = it.emits }
 
   changed_inside : (part : List Pair) (it : Sent) → IsChanged (in_dir name dirs) (in_dir name bases) part it
       → IsChanged dirs bases part (inside name it)
-  changed_inside part it changed = record { own = own_inside part it.path it.pair.1 changed.own; filled = changed.filled; other = changed.other }
+  changed_inside part it changed = record {
+    written_tree = written_tree_inside part it.path it.pair.1 changed.written_tree;
+    filled = changed.filled;
+    other =
+        changed.other;
+  }
 
   unchanged_inside : (part : List Pair) (path : Path) → IsUnchanged (in_dir name dirs) (in_dir name bases) part path
       → IsUnchanged dirs bases part (name ∷ path)
-  unchanged_inside part path same = record { tree = same.tree; own = own_inside part path same.tree same.own; filled = same.filled; same = same.same }
+  unchanged_inside part path same = record {
+    tree = same.tree;
+    written_tree = written_tree_inside part path same.tree same.written_tree;
+    filled = same.filled;
+    same = same.same;
+  }
 
   sorted_inside : (part : List Pair) (sent : List Sent) (spared : List Path) (path : Path)
       → IsSorted (in_dir name dirs) (in_dir name bases) part sent spared path
       → IsSorted dirs bases part (map (inside name) sent) (map (under name) spared) (name ∷ path)
   sorted_inside part sent spared path =
       ⊎_elim (λ goes. inl (goes.0, contains_map (inside name) sent (record { path = path; pair = goes.0 }) goes.1))
-      (λ stays. inr (⊎_elim (λ at. inl (contains_map (under name) spared path at)) (λ bare. inr (own_inside part path [] bare)) stays))
+      (λ stays. inr (⊎_elim (λ at. inl (contains_map (under name) spared path at)) (λ bare. inr (written_tree_inside part path [] bare)) stays))
 
   module _ (pairs inner below : List Pair) (low more total : ℕ) (here : List Sent) (kept : List Path)
       (is : pairs ≡ inner ++ (map loose_pair_of here ++ below))
@@ -285,9 +307,17 @@ module _ (dirs bases : Dirs) (name : List ℕ) where
 
 -- ---- all directories of a write
 
-written_tree_in_dir : (dirs bases : Dirs) (name : List ℕ) (inner back : List Pair) (own : List EntryView) (count : ℕ)
-    → EmitsBelow (in_dir name dirs) (in_dir name bases) inner own count → IsOwnTree dirs bases (inner ++ back) (name ∷ []) own
-written_tree_in_dir dirs bases name inner back own count it = record { prefix = []; below = inner; back = back; count = count; place = refl; emits = it }
+written_tree_in_dir : (dirs bases : Dirs) (name : List ℕ) (inner back : List Pair) (written_tree : List EntryView) (count : ℕ)
+    → EmitsBelow (in_dir name dirs) (in_dir name bases) inner written_tree count → IsWrittenTree dirs bases (inner ++ back) (name ∷ []) written_tree
+written_tree_in_dir dirs bases name inner back written_tree count it = record {
+  prefix = [];
+  below = inner;
+  back = back;
+  count = count;
+  split = refl;
+  emits =
+      it;
+}
 
 all_changed_nil : (dirs bases : Dirs) (pairs : List Pair) → All (IsChanged dirs bases pairs) []
 all_changed_nil dirs bases pairs = All-nil (IsChanged dirs bases pairs)
@@ -303,9 +333,9 @@ all_unchanged_singleton : (dirs bases : Dirs) (pairs : List Pair) (path : Path) 
 all_unchanged_singleton dirs bases pairs path same = All-cons (IsUnchanged dirs bases pairs) path [] same (all_unchanged_nil dirs bases pairs)
 
 mutual
-  emits_below_parted : (dirs bases : Dirs) (pairs : List Pair) (own : List EntryView) (saved : ℕ) → EmitsBelow dirs bases pairs own saved
+  emits_below_parted : (dirs bases : Dirs) (pairs : List Pair) (written_tree : List EntryView) (saved : ℕ) → EmitsBelow dirs bases pairs written_tree saved
       → (parts : Parts dirs bases pairs saved) × AreAllParts dirs bases pairs saved parts × (Formed dirs → Onces dirs bases Any pairs saved parts)
-  emits_below_parted dirs bases pairs own saved (of_entries d b entries below os n is walk) =
+  emits_below_parted dirs bases pairs written_tree saved (of_entries d b entries below os n is walk) =
       let it = walk_parted d b entries below os n walk in (
         it.0,
         λ closed name path there open_there.
@@ -325,16 +355,16 @@ mutual
             },
       )
 
-  walk_parted : (dirs bases : Dirs) (entries : List EntryView) (pairs : List Pair) (own : List EntryView) (saved : ℕ)
-      → EmitsEntries dirs bases entries pairs own saved
+  walk_parted : (dirs bases : Dirs) (entries : List EntryView) (pairs : List Pair) (written_tree : List EntryView) (saved : ℕ)
+      → EmitsEntries dirs bases entries pairs written_tree saved
       → (parts : Parts dirs bases pairs saved) × AreParts dirs bases entries pairs saved parts
       × (Formed dirs → AreNamedApart entries → Onces dirs bases (IsOf entries) pairs saved parts)
-  walk_parted dirs bases entries pairs own saved (end d b) = (
+  walk_parted dirs bases entries pairs written_tree saved (end d b) = (
     record { sent = []; spared = []; entire = refl; changed = all_changed_nil d b []; same = all_unchanged_nil d b []; count = refl },
     λ closed e has. absurd has,
     λ formed apart. record { sent = tt; sent_start = tt; spared = tt; spared_start = tt },
   )
-  walk_parted dirs bases entries pairs own saved (unopened d b e rest below os n none walk) =
+  walk_parted dirs bases entries pairs written_tree saved (unopened d b e rest below os n none walk) =
       let it = walk_parted d b rest below os n walk in (
         it.0,
         λ closed x has path there open_there. ⊎_elim
@@ -354,7 +384,7 @@ mutual
               spared_start = starts_cons (IsOf rest) (IsOf (e ∷ rest)) more it.0.spared once.spared_start;
             },
       )
-  walk_parted dirs bases entries pairs own saved (left_out_if_empty d b e rest inner below os m n found walk) =
+  walk_parted dirs bases entries pairs written_tree saved (left_out_if_empty d b e rest inner below os m n found walk) =
       let low = emits_below_parted (in_dir e.name d) (in_dir e.name b) inner [] m found in
       let it = walk_parted d b rest below os n walk in
       let sum : m + n ≡ m + (length {A = Path} [] + n) = omega arith in (
@@ -366,7 +396,7 @@ mutual
             (all_unchanged_nil d b (inner ++ below)) low.0 it.0 e rest refl apart.0 (inl refl) (inl refl) (low.2 (λ path. formed (e.name ∷ path)))
             (it.2 formed apart.1),
       )
-  walk_parted dirs bases entries pairs own saved (unchanged d b e first rest more inner below os m n found same walk) =
+  walk_parted dirs bases entries pairs written_tree saved (unchanged d b e first rest more inner below os m n found same walk) =
       let low = emits_below_parted (in_dir e.name d) (in_dir e.name b) inner (first ∷ more) m found in
       let it = walk_parted d b rest below os n walk in
       let tree : List EntryView = first ∷ more in
@@ -374,7 +404,7 @@ mutual
       let sum : m + 1 + n ≡ m + (1 + n) = omega arith in
       let its : All (IsUnchanged d b (inner ++ below)) kept =
       all_unchanged_singleton d b (inner ++ below) (e.name ∷ [])
-      (record { tree = tree; own = written_tree_in_dir d b e.name inner below tree m found; filled = λ empty. cc empty; same = same }) in
+      (record { tree = tree; written_tree = written_tree_in_dir d b e.name inner below tree m found; filled = λ empty. cc empty; same = same }) in
       let at = Contains-append_right (map (under e.name) low.0.spared) (kept ++ it.0.spared) (e.name ∷ [])
       (Contains-append_left kept it.0.spared (e.name ∷ []) (0, omega arith, refl)) in (
         joined d b e.name (inner ++ below) inner below m n (m + 1 + n) [] kept refl sum (all_changed_nil d b (inner ++ below)) its low.0 it.0,
@@ -385,7 +415,7 @@ mutual
             (all_changed_nil d b (inner ++ below)) its low.0 it.0
             e rest refl apart.0 (inl refl) (inr refl) (low.2 (λ path. formed (e.name ∷ path))) (it.2 formed apart.1),
       )
-  walk_parted dirs bases entries pairs own saved (written d b e first rest more inner below os m n id found other walk) =
+  walk_parted dirs bases entries pairs written_tree saved (written d b e first rest more inner below os m n id found other walk) =
       let low = emits_below_parted (in_dir e.name d) (in_dir e.name b) inner (first ∷ more) m found in
       let it = walk_parted d b rest below os n walk in
       let tree : List EntryView = first ∷ more in
@@ -394,7 +424,7 @@ mutual
       let sum : m + n ≡ m + (0 + n) = omega arith in
       let mine : All (IsChanged d b all) (one ∷ []) =
       all_changed_singleton d b all one (record {
-        own = written_tree_in_dir d b e.name inner ((id, tree) ∷ below) tree m found;
+        written_tree = written_tree_in_dir d b e.name inner ((id, tree) ∷ below) tree m found;
         filled = λ empty. cc empty;
         other = other;
       }) in
@@ -412,18 +442,19 @@ closed_of_is_opened : (dirs : Dirs) → IsOpened dirs → Closed dirs
 closed_of_is_opened dirs is path name entries there = let it = is.above path name entries there in (it.0, it.1, it.2)
 
 -- the emitted pairs of a write, without its own
-pub is_divided_of_walk : (dirs bases : Dirs) (pairs below : List Pair) (saved : ℕ) (id : ObjectId) (own : List EntryView) → Emits dirs bases saved pairs
-    → pairs ≡ below ++ (id, own) ∷ [] → IsDivided dirs bases pairs id saved
-is_divided_of_walk dirs bases pairs below saved id own (part, its_id, its_own, (count, goes, saves), full) last =
+pub is_divided_of_walk : (dirs bases : Dirs) (pairs below : List Pair) (saved : ℕ) (id : ObjectId) (written_tree : List EntryView)
+    → Emits dirs bases saved pairs
+    → pairs ≡ below ++ (id, written_tree) ∷ [] → IsDivided dirs bases pairs id saved
+is_divided_of_walk dirs bases pairs below saved id written_tree (part, its_id, its_own, (count, goes, saves), full) last =
     let (parts, each, once) = emits_below_parted dirs bases part its_own count goes in
-    let same = snoc_injective part below (its_id, its_own) (id, own) (sym full ∙ last) in
+    let same = snoc_injective part below (its_id, its_own) (id, written_tree) (sym full ∙ last) in
     let its : List Pair = (its_id, its_own) ∷ [] in
     let among : pairs ≡ [] ++ (part ++ its) = full in
     record {
       sent = parts.sent;
       spared = parts.spared;
-      own = own;
-      entire = last ∙ ap (λ (ps : List Pair). ps ++ (id, own) ∷ []) (sym same.0 ∙ parts.entire);
+      written_tree = written_tree;
+      entire = last ∙ ap (λ (ps : List Pair). ps ++ (id, written_tree) ∷ []) (sym same.0 ∙ parts.entire);
       changed = All-weaker (IsChanged dirs bases part) (IsChanged dirs bases pairs) (λ it. changed_among dirs bases pairs [] part its among it)
           parts.sent
           parts.changed;

@@ -49,7 +49,7 @@ module _ {S E : Type 0} (model : StoreModel S) (answers : Answers E) where
     pub before : List Edit
     pub failed_edit : Edit
     pub following : List Edit
-    pub place : edits ≡ before ++ failed_edit ∷ following
+    pub split : edits ≡ before ++ failed_edit ∷ following
     pub number : length before ≡ index
     pub reached : State S
     pub done : AreEditsDone old before reached

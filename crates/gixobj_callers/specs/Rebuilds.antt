@@ -26,11 +26,12 @@ id_named (Some written) = Some written.id
 
 -- the reply at this index reports a write of the root that names this id
 abbrev pub NamesWritten : {E : Type 0} → List (Reply E) → ℕ → ObjectId → Type 0
-NamesWritten replies place id = (written : Written) × (written_at replies place ≡ Some written) × (written.id ≡ id)
+NamesWritten replies position id = (written : Written) × (written_at replies position ≡ Some written)
+    × (written.id ≡ id)
 
 -- the number of commands up to the later of two indices
 abbrev pub up_to : ℕ → ℕ → ℕ
-up_to place other = suc (max place other)
+up_to position other = suc (max position other)
 
 -- the emitted trees of a run are consistent with these trees, and each kept tree decodes to itself
 pub record IsConsistentRun {E : Type 0} (replies : List (Reply E)) (trees : Trees) : Type 0 where
@@ -40,11 +41,11 @@ pub record IsConsistentRun {E : Type 0} (replies : List (Reply E)) (trees : Tree
 -- in some table that agrees with the run, the tree of this id has, at every depth, exactly the files that the accepted
 -- commands before an index make of none
 pub record HasFilesInTable {E : Type 0} (objects : Objects) (commands : List Command) (replies : List (Reply E))
-    (place : ℕ) (id : ObjectId) : Type 0 where
+    (position : ℕ) (id : ObjectId) : Type 0 where
   pub table : Table
   pub agrees : AgreesWithRun table objects replies
   pub files : (n : ℕ) → SameFiles (NamedFiles table n id)
-      (FilesAfter table n (accepted_steps (take place commands) (take place replies)) NoFiles)
+      (FilesAfter table n (accepted_steps (take position commands) (take position replies)) NoFiles)
 
 module _ {S E : Type 0} (model : StoreModel S) (answers : Answers E) (store : S) (object_hash : hash.Kind)
     (commands : List Command) where
@@ -55,40 +56,40 @@ module _ {S E : Type 0} (model : StoreModel S) (answers : Answers E) (store : S)
 
   -- the index is that of a successful write of the root, which names this id. The id's tree has the files of the
   -- commands before it, if the emitted trees are consistent with the store's trees before the run
-  pub record IsRebuilt (place : ℕ) (id : ObjectId) : Type 0 where
+  pub record IsRebuilt (position : ℕ) (id : ObjectId) : Type 0 where
     pub replies : List (Reply E)
     pub run : AreReplies replies
-    pub named : NamesWritten replies place id
+    pub named : NamesWritten replies position id
     pub files : OfTrees (model.objects store) (λ trees. IsConsistentRun replies trees
-        → HasFilesInTable (model.objects store) commands replies place id)
+        → HasFilesInTable (model.objects store) commands replies position id)
 
   -- the errors of a rebuild: no write of the root at the index, or out of memory for the replies
   abbrev pub IsRebuildError : ℕ → CompareError → Type 0
-  IsRebuildError place (compare.NoWrite at) = (replies : List (Reply E)) × AreReplies replies
-      × (written_at replies at ≡ None) × (at ≡ place)
-  IsRebuildError place compare.OutOfMemory = ⊤
+  IsRebuildError position (compare.NoWrite at) = (replies : List (Reply E)) × AreReplies replies
+      × (written_at replies at ≡ None) × (at ≡ position)
+  IsRebuildError position compare.OutOfMemory = ⊤
 
   -- both indices are those of a successful write of the root, and the result is whether they name one id; if the run is
   -- plain up to the later index, it is whether their files are equal
-  pub record IsCompared (place other : ℕ) (same : Bool) : Type 0 where
+  pub record IsCompared (position other : ℕ) (same : Bool) : Type 0 where
     pub replies : List (Reply E)
     pub run : AreReplies replies
     pub first : Written
     pub second : Written
-    pub first_at : written_at replies place ≡ Some first
+    pub first_at : written_at replies position ≡ Some first
     pub second_at : written_at replies other ≡ Some second
     pub ids : IsTrue same ↔ (first.id ≡ second.id)
     pub files : (T : Table) → IsPlainRun T (model.objects store) (new_state [] store object_hash)
-        (take (up_to place other) commands) (take (up_to place other) replies)
-        → IsTrue same ↔ SameFiles (files_before place commands replies) (files_before other commands replies)
+        (take (up_to position other) commands) (take (up_to position other) replies)
+        → IsTrue same ↔ SameFiles (files_before position commands replies) (files_before other commands replies)
 
   -- the first of two indices without a successful write of the root
   abbrev pub IsNoWrite : List (Reply E) → ℕ → ℕ → ℕ → Type 0
-  IsNoWrite replies place other at = (written_at replies at ≡ None)
-      × ((at ≡ place) ⊎ ((at ≡ other) × (written_at replies place ≢ None)))
+  IsNoWrite replies position other at = (written_at replies at ≡ None)
+      × ((at ≡ position) ⊎ ((at ≡ other) × (written_at replies position ≢ None)))
 
   -- the errors of a comparison: an index without a write, or out of memory for the replies
   abbrev pub IsComparisonError : ℕ → ℕ → CompareError → Type 0
-  IsComparisonError place other (compare.NoWrite at) = (replies : List (Reply E)) × AreReplies replies
-      × IsNoWrite replies place other at
-  IsComparisonError place other compare.OutOfMemory = ⊤
+  IsComparisonError position other (compare.NoWrite at) = (replies : List (Reply E)) × AreReplies replies
+      × IsNoWrite replies position other at
+  IsComparisonError position other compare.OutOfMemory = ⊤

@@ -37,39 +37,39 @@ Once paths = EachLater (λ (one : Path) (other : Path). one ≢ other) paths
 -- a write of these directories, opened with these bases, that emits these pairs
 module _ (dirs bases : Dirs) (pairs : List Pair) where
   -- the written tree of the directory at the path: the pairs of the directories in it are consecutive
-  pub record IsOwnTree (path : Path) (own : List EntryView) : Type 0 where
+  pub record IsWrittenTree (path : Path) (written_tree : List EntryView) : Type 0 where
     pub prefix : List Pair
     pub below : List Pair
     pub back : List Pair
     pub count : ℕ
-    pub place : pairs ≡ prefix ++ (below ++ back)
-    pub emits : EmitsBelow (in_path path dirs) (in_path path bases) below own count
+    pub split : pairs ≡ prefix ++ (below ++ back)
+    pub emits : EmitsBelow (in_path path dirs) (in_path path bases) below written_tree count
 
   -- a changed directory: its written tree isn't its base
   pub record IsChanged (it : Sent) : Type 0 where
-    pub own : IsOwnTree it.path it.pair.1
+    pub written_tree : IsWrittenTree it.path it.pair.1
     pub filled : it.pair.1 ≢ []
     pub other : bases it.path ≢ Some it.pair.1
 
   -- an unchanged directory: its written tree is its base
   pub record IsUnchanged (path : Path) : Type 0 where
     pub tree : List EntryView
-    pub own : IsOwnTree path tree
+    pub written_tree : IsWrittenTree path tree
     pub filled : tree ≢ []
     pub same : bases path ≡ Some tree
 
   -- the directory is emitted, or unchanged, or its written tree is empty
   abbrev pub IsSorted : List Sent → List Path → Path → Type 0
   IsSorted sent spared path = ((pair : Pair) × Contains sent (record { path = path; pair = pair }))
-      ⊎ (Contains spared path ⊎ IsOwnTree path [])
+      ⊎ (Contains spared path ⊎ IsWrittenTree path [])
 
   -- the emitted trees are those of the changed directories, each once, and then the root's; the number is that of the
   -- unchanged directories; and each open directory is one of these, or its written tree is empty
   pub record IsDivided (id : ObjectId) (unchanged : ℕ) : Type 0 where
     pub sent : List Sent
     pub spared : List Path
-    pub own : List EntryView
-    pub entire : pairs ≡ map loose_pair_of sent ++ (id, own) ∷ []
+    pub written_tree : List EntryView
+    pub entire : pairs ≡ map loose_pair_of sent ++ (id, written_tree) ∷ []
     pub changed : All IsChanged sent
     pub same : All IsUnchanged spared
     pub count : unchanged ≡ raised 0 (length spared)

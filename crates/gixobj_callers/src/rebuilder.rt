@@ -16,10 +16,10 @@ use std::alloc::Global;
 #[derive(Debug, Drop, thiserror::Error)]
 pub enum CompareError {
     /// The command at this index isn't a successful write of the root, or is missing. The commands were run.
-    #[error("no write of the root at place {place}")]
+    #[error("no write of the root at position {position}")]
     NoWrite {
         /// The index, from 0; the first of the two if neither is that of a write.
-        place: usize,
+        position: usize,
     },
     /// Allocation of the replies failed. Nothing was done.
     #[error("out of memory")]
@@ -62,20 +62,20 @@ pub fn rebuild<S: Keep + Drop, E: Drop, F: Fn(&Tree) -> Result<ObjectId, E> + Dr
     store: S,
     object_hash: Kind,
     commands: Vec<Command>,
-    place: usize,
+    position: usize,
     out: F,
 ) -> Result<ObjectId, CompareError>
     requires callable { IsCallable F.pre out }
     ensures files { IfOk result (IsRebuilt (store_model S.objects S.may_fail) (FnReturnsAt F.Fn out)
-        store object_hash commands.items place) }
+        store object_hash commands.items position) }
     ensures error { IfErr result (IsRebuildError (store_model S.objects S.may_fail)
-        (FnReturnsAt F.Fn out) store object_hash commands.items place) }
+        (FnReturnsAt F.Fn out) store object_hash commands.items position) }
 {
     let mut editor = Editor::new(Tree::empty(alloc), store, object_hash);
     let replies = run(alloc, &mut editor, commands, out)?;
     consistent_run_has_table(&replies);
     run_table_agrees_with_writes(&replies);
-    id_written(&replies, place)
+    id_written(&replies, position)
 }
 
 /// Runs commands on an editor without files, and tests if its writes of the root at two indices, from 0, name
@@ -100,19 +100,19 @@ pub fn wrote_the_same<S: Keep + Drop, E: Drop, F: Fn(&Tree) -> Result<ObjectId, 
     store: S,
     object_hash: Kind,
     commands: Vec<Command>,
-    place: usize,
+    position: usize,
     other: usize,
     out: F,
 ) -> Result<bool, CompareError>
     requires callable { IsCallable F.pre out }
     ensures compared { IfOk result (IsCompared (store_model S.objects S.may_fail) (FnReturnsAt F.Fn out)
-        store object_hash commands.items place other) }
+        store object_hash commands.items position other) }
     ensures error { IfErr result (IsComparisonError (store_model S.objects S.may_fail)
-        (FnReturnsAt F.Fn out) store object_hash commands.items place other) }
+        (FnReturnsAt F.Fn out) store object_hash commands.items position other) }
 {
     let mut editor = Editor::new(Tree::empty(alloc), store, object_hash);
     let replies = run(alloc, &mut editor, commands, out)?;
-    let first = match id_written(&replies, place) {
+    let first = match id_written(&replies, position) {
         Ok(first) => first,
         Err(error) => return Err(error),
     };
@@ -131,17 +131,17 @@ fn are_same(id: ObjectId, other: ObjectId) -> bool
 }
 
 /// Returns the id that a write of the root names, by the reply at this index.
-fn id_written<E>(replies: &[Reply<E>], place: usize) -> Result<ObjectId, CompareError>
-    ensures found { IfOk result (NamesWritten replies.now place) }
-    ensures error { IfErr result (λ error. error ≡ CompareError.NoWrite place) }
-    ensures none { OnErr result (written_at replies.now place ≡ None) }
+fn id_written<E>(replies: &[Reply<E>], position: usize) -> Result<ObjectId, CompareError>
+    ensures found { IfOk result (NamesWritten replies.now position) }
+    ensures error { IfErr result (λ error. error ≡ CompareError.NoWrite position) }
+    ensures none { OnErr result (written_at replies.now position ≡ None) }
 {
-    let Some(reply) = replies.get(place) else {
-        return Err(CompareError::NoWrite { place });
+    let Some(reply) = replies.get(position) else {
+        return Err(CompareError::NoWrite { position });
     };
     match id_in(reply) {
         Some(id) => Ok(id),
-        None => Err(CompareError::NoWrite { place }),
+        None => Err(CompareError::NoWrite { position }),
     }
 }
 

@@ -38,7 +38,7 @@ const MERGE: &[u8] = b"tree 4b825dc642cb6eb9a060e54bf8d69288fbee4904\n\
     gpgsig A\n B\n\nhi\n";
 
 /// Input that doesn't decode as a commit.
-const CUT: &[u8] = b"tree 4b";
+const TRUNCATED: &[u8] = b"tree 4b";
 
 /// The tree of a commit. `None` for malformed input.
 fn tree_in(alloc: Global, bytes: &[u8]) -> Option<ObjectId> {
@@ -64,8 +64,8 @@ fn finds_tree_parents_and_message(rt: HostRuntime) {
     assert!(rt; tree_in(alloc, MERGE) == Some(id(TREE)));
     assert!(rt; has_both_parents(alloc));
     assert!(rt; has_message(alloc));
-    assert!(rt; ends_after_errors(alloc, CUT, Kind::Sha1));
-    assert!(rt; tree_in(alloc, CUT).is_none());
+    assert!(rt; ends_after_errors(alloc, TRUNCATED, Kind::Sha1));
+    assert!(rt; tree_in(alloc, TRUNCATED).is_none());
 }
 
 /// Whether a copy has these bytes.
@@ -78,7 +78,7 @@ fn is_copy(copied: Result<Vec<u8>, CopyError>, bytes: &[u8]) -> bool {
 
 /// Whether a copy of the malformed commit fails with `CopyError::Read`.
 fn is_not_read(alloc: Global) -> bool {
-    match copy_of(alloc, CUT, Kind::Sha1) {
+    match copy_of(alloc, TRUNCATED, Kind::Sha1) {
         Err(CopyError::Read(_)) => true,
         _ => false,
     }
@@ -86,7 +86,7 @@ fn is_not_read(alloc: Global) -> bool {
 
 /// A commit is copied, also through its owned form.
 #[test]
-fn copies_commit_and_rejects_cut_one(rt: HostRuntime) {
+fn copies_commit_and_rejects_truncated_one(rt: HostRuntime) {
     let alloc = rt.alloc();
     assert!(rt; is_copy(copy_of(alloc, MERGE, Kind::Sha1), MERGE));
     assert!(rt; is_copy(owned_copy_of(alloc, MERGE, Kind::Sha1), MERGE));

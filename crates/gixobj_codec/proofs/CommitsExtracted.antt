@@ -16,7 +16,7 @@ use Rattle.gixobj_fields.proofs.HeaderFields.{header_unique}
 use Rattle.gixobj_fields.proofs.HeadersRoundTrip.{header_round_trips}
 use Rattle.gixobj_fields.specs.FieldWriting.{encode_header, value_lines}
 use Rattle.gixobj_fields.specs.HeaderFormat.{EndsHeader, BeginsWithField, BeginsWithHeader, Header, IsHeaderName, DecodesToHeader, encode_field, encode_continuation, encode_line, value_of_lines}
-use Rattle.gixobj_fields.specs.Runs.{Passes}
+use Rattle.gixobj_fields.specs.Runs.{BeginsWithPieces}
 use Rattle.gixobj_hash.specs.declared.hash.kind.Kind.{Kind}
 use Rattle.gixobj_hash.specs.declared.hash.kind.Kind.TheVariants as hash
 use Rattle.gixobj_line.specs.Commit.{DecodesToHeaders, CommitLines, before_encoding, encode_encoding, encode_ids, encode_parent}
@@ -273,9 +273,9 @@ no_line_at_end kind here content line next after is (message_comes _ message sam
 
 no_line_after_end : (kind : Kind) (lines : List LineView) (next : State) (after : List ℕ) (before : State) (input : List ℕ) (line : LineView)
     (next_state : State) (rest : List ℕ)
-    → next ≡ state.End → Passes (BeginsWithLine kind) next after lines before input → BeginsWithLine kind before input line next_state rest → ⊥
-no_line_after_end kind [] next after before input line next_state rest is passes comes = no_line_at_end kind before input line next_state rest
-    (sym passes.0 ∙ is) comes
+    → next ≡ state.End → BeginsWithPieces (BeginsWithLine kind) next after lines before input → BeginsWithLine kind before input line next_state rest → ⊥
+no_line_after_end kind [] next after before input line next_state rest is begins_with comes = no_line_at_end kind before input line next_state rest
+    (sym begins_with.0 ∙ is) comes
 no_line_after_end kind (first ∷ lines) next after before input line next_state rest is (n, a, has, more) comes =
     no_line_at_end kind next after first n a is has
 
@@ -286,41 +286,43 @@ BlocksBefore kind content input = (leading : List ℕ) × (content ≡ leading +
 blocks_before_snoc : (kind : Kind) (lines : List LineView) (content : List ℕ) (next : State) (after : List ℕ) (before : State) (input : List ℕ)
     (line : LineView)
     (next_state : State) (rest : List ℕ)
-    → IsBlockLine kind content next after → Passes (BeginsWithLine kind) next after lines before input → BeginsWithLine kind before input line next_state rest
+    → IsBlockLine kind content next after → BeginsWithPieces (BeginsWithLine kind) next after lines before input
+    → BeginsWithLine kind before input line next_state rest
     → BlocksBefore kind after input → BlocksBefore kind content input
 unfolding BlocksBefore
-blocks_before_snoc kind lines content next after before input line next_state rest (inl (is, (message, same))) passes comes blocks =
-    absurd (no_line_after_end kind lines next after before input line next_state rest is passes comes)
-blocks_before_snoc kind lines content next after before input line next_state rest (inr (one, joined, block)) passes comes (leading, is, blocks) = (
+blocks_before_snoc kind lines content next after before input line next_state rest (inl (is, (message, same))) begins_with comes blocks =
+    absurd (no_line_after_end kind lines next after before input line next_state rest is begins_with comes)
+blocks_before_snoc kind lines content next after before input line next_state rest (inr (one, joined, block)) begins_with comes (leading, is, blocks) = (
   one ++ leading,
   joined ∙ ap (λ (it : List ℕ). one ++ it) is ∙ sym (append_assoc one leading input),
   blocks_append
       (signature_field kind) one leading block blocks,
 )
 
-blocks_before_of_passes : (kind : Kind) (lines : List LineView) (here : State) (content : List ℕ) (before : State) (input : List ℕ) (line : LineView)
+blocks_before_of_begins_with : (kind : Kind) (lines : List LineView) (here : State) (content : List ℕ) (before : State) (input : List ℕ) (line : LineView)
     (next_state : State)
     (rest : List ℕ)
-    → Passes (BeginsWithLine kind) here content lines before input → All (λ it. ¬ IsNamedLine (signature_field kind) it) lines
+    → BeginsWithPieces (BeginsWithLine kind) here content lines before input → All (λ it. ¬ IsNamedLine (signature_field kind) it) lines
     → BeginsWithLine kind before input line next_state rest → BlocksBefore kind content input
 unfolding BlocksBefore
-blocks_before_of_passes kind [] here content before input line next_state rest passes others comes = ([], passes.1, blocks_nil (signature_field kind))
-blocks_before_of_passes kind (first ∷ lines) here content before input line next_state rest (next, after, has, more) others comes =
+blocks_before_of_begins_with kind [] here content before input line next_state rest begins_with others comes =
+    ([], begins_with.1, blocks_nil (signature_field kind))
+blocks_before_of_begins_with kind (first ∷ lines) here content before input line next_state rest (next, after, has, more) others comes =
     blocks_before_snoc kind lines content next after before input line next_state rest
     (block_line_of_header kind here content first next after has (All-head (λ (it : LineView). ¬ IsNamedLine (signature_field kind) it) first lines others))
     more comes
-    (blocks_before_of_passes kind lines next after before input line next_state rest more
+    (blocks_before_of_begins_with kind lines next after before input line next_state rest more
     (All-tail (λ (it : LineView). ¬ IsNamedLine (signature_field kind) it) first lines others) comes)
 
 -- the bytes before a signature header, which are headers of other names
 pub before_header : (kind : Kind) (lines : List LineView) (here : State) (content : List ℕ) (before : State) (input : List ℕ) (line : LineView)
     (next_state : State)
     (rest : List ℕ)
-    → Passes (BeginsWithLine kind) here content lines before input → All (λ it. ¬ IsNamedLine (signature_field kind) it) lines
+    → BeginsWithPieces (BeginsWithLine kind) here content lines before input → All (λ it. ¬ IsNamedLine (signature_field kind) it) lines
     → BeginsWithLine kind before input line next_state rest → (leading : List ℕ) × (content ≡ leading ++ input) × Blocks (signature_field kind) leading
 unfolding BlocksBefore
-before_header kind lines here content before input line next_state rest passes others comes =
-    blocks_before_of_passes kind lines here content before input line next_state rest passes others comes
+before_header kind lines here content before input line next_state rest begins_with others comes =
+    blocks_before_of_begins_with kind lines here content before input line next_state rest begins_with others comes
 
 pub header_here : (kind : Kind) (before : State) (input : List ℕ) (header : Header) (next_state : State) (rest : List ℕ)
     → BeginsWithLine kind before input (header_line header) next_state rest → BeginsWithHeader input header rest
@@ -458,8 +460,8 @@ module _ (kind : Kind) (commit : CommitLines) (bytes : List ℕ) (named : HasHea
       → (signed ≡ encode_commit (without_headers (signature_field kind) commit)) × (value ≡ (read_again the_header).value)
       × (has.rest ≡ 10 ∷ commit.message)
   signature_extracted value signed has =
-      let read = before_header kind has.passes.0 state.Tree (encode_commit (with_signature kind bytes commit)) has.before has.input
-      (header_line has.header) has.following has.rest has.passes.1 has.passes.2 has.comes in
+      let read = before_header kind has.begins_with.0 state.Tree (encode_commit (with_signature kind bytes commit)) has.before has.input
+      (header_line has.header) has.following has.rest has.begins_with.1 has.begins_with.2 has.comes in
       let comes : BeginsWithHeader has.input has.header has.rest = header_here kind has.before has.input has.header has.following has.rest has.comes in
       let prefixes : has.prefix ≡ read.0 = append_cancel_right has.prefix read.0 has.input (sym has.joined ∙ read.1) in
       let once : (read.0 ++ has.rest ≡ unsigned_prefix ++ 10 ∷ commit.message) × (has.header ≡ read_again the_header) × (has.rest ≡ 10 ∷ commit.message) =

@@ -10,10 +10,10 @@ use Rattle.gixobj_commit.specs.CommitSigning.{is_header_named, payload_of_commit
 use Rattle.gixobj_commit.specs.CommitWriting.{encode_commit}
 use Rattle.gixobj_tokens.specs.CommitSignatures.{signature_field, HasCommitSignature, HasNoSignature}
 use Rattle.gixobj_fields.proofs.HeadersRoundTrip.{header_round_trips}
-use Rattle.gixobj_fields.proofs.Runs.{passes_one}
+use Rattle.gixobj_fields.proofs.Runs.{begins_with_pieces_snoc}
 use Rattle.gixobj_fields.specs.FieldWriting.{encode_header, value_lines}
 use Rattle.gixobj_fields.specs.HeaderFormat.{BeginsWithHeader, Header, DecodesToHeader, value_of_lines}
-use Rattle.gixobj_fields.specs.Runs.{Passes, Yields, complete, yields_end, yields_piece}
+use Rattle.gixobj_fields.specs.Runs.{BeginsWithPieces, Yields, complete, yields_end, yields_piece}
 use Rattle.gixobj_hash.specs.declared.hash.kind.Kind.{Kind}
 use Rattle.gixobj_line.proofs.EntireCommits.{reaches_end, reaches_more}
 use Rattle.gixobj_line.proofs.LinesYielded.{yields_lines_of_commit}
@@ -170,7 +170,7 @@ record Comes (kind : Kind) (here : State) (content : List ℕ) (lines : List Lin
   input : List ℕ
   following : State
   rest : List ℕ
-  passes : Passes (BeginsWithLine kind) here content lines before input
+  begins_with : BeginsWithPieces (BeginsWithLine kind) here content lines before input
   comes : BeginsWithLine kind before input line following rest
 
 comes_of_yields : (kind : Kind) (here : State) (content : List ℕ) (all lines : List LineView) (line : LineView) (more : List LineView)
@@ -184,7 +184,7 @@ comes_of_yields kind here content all [] line more same (yields_piece _ next _ a
       input = content;
       following = next;
       rest = after;
-      passes = (refl, refl);
+      begins_with = (refl, refl);
       comes = subst (λ (it : LineView). BeginsWithLine kind here content it next after) e has;
     }
 comes_of_yields kind here content all (first ∷ lines) line more same (yields_piece _ next _ after piece others _ has seen) =
@@ -196,7 +196,7 @@ comes_of_yields kind here content all (first ∷ lines) line more same (yields_p
       input = later.input;
       following = later.following;
       rest = later.rest;
-      passes = (next, after, subst (λ (it : LineView). BeginsWithLine kind here content it next after) e has, later.passes);
+      begins_with = (next, after, subst (λ (it : LineView). BeginsWithLine kind here content it next after) e has, later.begins_with);
       comes = later.comes;
     }
 
@@ -230,8 +230,8 @@ module _ (kind : Kind) (content : List ℕ) (commit : CommitLines) (is : Decodes
   signs_by_split : (value signed : List ℕ) → HasCommitSignature kind content value signed → SplitsOrNot name is.headers_encoding commit.extra_headers
       → Signs value signed
   signs_by_split value signed has (inl split) =
-      let read = before_header kind has.passes.0 state.Tree content has.before has.input (header_line has.header) has.following has.rest has.passes.1
-      has.passes.2 has.comes in
+      let read = before_header kind has.begins_with.0 state.Tree content has.before has.input (header_line has.header) has.following has.rest has.begins_with.1
+      has.begins_with.2 has.comes in
       let comes : BeginsWithHeader has.input has.header has.rest = header_here kind has.before has.input has.header has.following has.rest has.comes in
       let prefixes : has.prefix ≡ read.0 = append_cancel_right has.prefix read.0 has.input (sym has.joined ∙ read.1) in
       let others : Blocks name split.prefix = record { headers = split.before; are = split.before_are; others = split.others } in
@@ -258,8 +258,8 @@ module _ (kind : Kind) (content : List ℕ) (commit : CommitLines) (is : Decodes
         );
       }
   signs_by_split value signed has (inr none) =
-      let read = before_header kind has.passes.0 state.Tree content has.before has.input (header_line has.header) has.following has.rest has.passes.1
-      has.passes.2 has.comes in
+      let read = before_header kind has.begins_with.0 state.Tree content has.before has.input (header_line has.header) has.following has.rest has.begins_with.1
+      has.begins_with.2 has.comes in
       let comes : BeginsWithHeader has.input has.header has.rest = header_here kind has.before has.input has.header has.following has.rest has.comes in
       let others : Blocks name is.headers_encoding = record { headers = commit.extra_headers; are = is.extra_headers; others = none } in
       let blocks = blocks_append name (leading commit) is.headers_encoding content_blocks others in
@@ -309,7 +309,7 @@ module _ (kind : Kind) (content : List ℕ) (commit : CommitLines) (is : Decodes
       (map header_line after ++ message_line commit.message ∷ []) (lines_of_commit_at_header commit before after header parts)
       (yields_lines_of_commit kind content commit is) in
       let none = lines_before_are_unnamed name commit before others in
-      let read = before_header kind lines state.Tree content at.before at.input (header_line header) at.following at.rest at.passes none at.comes in (
+      let read = before_header kind lines state.Tree content at.before at.input (header_line header) at.following at.rest at.begins_with none at.comes in (
         read.0 ++ at.rest,
         record {
           before = at.before;
@@ -318,7 +318,7 @@ module _ (kind : Kind) (content : List ℕ) (commit : CommitLines) (is : Decodes
           rest = at.rest;
           header = header;
           prefix = read.0;
-          passes = (lines, at.passes, none);
+          begins_with = (lines, at.begins_with, none);
           comes = at.comes;
           named = refl;
           received = refl;
@@ -393,11 +393,11 @@ module _ (kind : Kind) (commit : CommitLines) (bytes : List ℕ) (named : HasHea
       let content = encode_commit (with_signature kind bytes commit) in
       let rest : has.rest ≡ 10 ∷ commit.message = message_follows kind commit bytes named fields value signed has in
       let after : has.following ≡ state.ExtraHeaders = state_after_header kind has.before has.input has.header has.following has.rest has.comes in
-      let passes : Passes (BeginsWithLine kind) state.Tree content (has.passes.0 ++ header_line has.header ∷ []) has.following has.rest =
-      passes_one (BeginsWithLine kind) state.Tree has.before has.following content has.input has.rest has.passes.0
-      (header_line has.header) has.passes.1 has.comes in
+      let begins_with : BeginsWithPieces (BeginsWithLine kind) state.Tree content (has.begins_with.0 ++ header_line has.header ∷ []) has.following has.rest =
+      begins_with_pieces_snoc (BeginsWithLine kind) state.Tree has.before has.following content has.input has.rest has.begins_with.0
+      (header_line has.header) has.begins_with.1 has.comes in
       let ends : BeginsWithLine kind has.following has.rest (message_line commit.message) state.End [] =
       subst (λ (it : State). BeginsWithLine kind it has.rest (message_line commit.message) state.End []) (sym after)
       (message_comes has.rest commit.message rest) in
       reaches_end kind content state.End [] (reaches_more kind content has.following state.End has.rest []
-      (has.passes.0 ++ header_line has.header ∷ [], passes) (message_line commit.message, ends)) refl
+      (has.begins_with.0 ++ header_line has.header ∷ [], begins_with) (message_line commit.message, ends)) refl

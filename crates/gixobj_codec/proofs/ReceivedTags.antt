@@ -20,7 +20,7 @@ use Rattle.gixobj_tag.specs.TagWriting.{encode_tag}
 use Rattle.gixobj_text.proofs.MarkerPlaces.{no_marker_and_marker_place}
 use Rattle.gixobj_text.specs.declared.signature.Format.{Format}
 use Rattle.gixobj_codec.proofs.TagsAgree.{AreAfter, IsFoundIn, after_lines, after_newline_alone, also_after, lines_joined, no_marker_in_newlines, one_signature, tag_found}
-use Rattle.gixobj_codec.proofs.TagsExtracted.{cut, marks_place_after_prefix, signed_tag_bytes}
+use Rattle.gixobj_codec.proofs.TagsExtracted.{prefix_of_append_eq, has_marker_at_after_prefix, signed_tag_bytes}
 use Rattle.gixobj_codec.specs.ReceivedSignatures.{HasSameLines, SignsTag}
 
 -- the signed bytes are the lines before the body, a newline and more
@@ -30,16 +30,16 @@ BeginsWithLines lines signed = (more : List ℕ) × (signed ≡ lines ++ 10 ∷ 
 signed_data_begins_with_lines : (lines body message signature signed : List ℕ) (own : Option (List ℕ)) (format : Format) → AreAfter lines body
     → IsBody body message own → HasTagSignature (lines ++ body) signature signed format → BeginsWithLines lines signed
 signed_data_begins_with_lines lines body message signature signed own format after (newlines_alone _ are) has =
-    let past = after has.place format has.is_place.here in
-    absurd (no_marker_in_newlines body are _ format (marks_place_after_prefix lines body has.place format past has.is_place.here))
+    let len_le = after has.position format has.is_marker_place.here in
+    absurd (no_marker_in_newlines body are _ format (has_marker_at_after_prefix lines body has.position format len_le has.is_marker_place.here))
 signed_data_begins_with_lines lines body message signature signed own format after (after_a_newline _ content _ _ joined more parted) has =
     let ahead : AreAfter (lines ++ 10 ∷ []) content =
     also_after lines (10 ∷ []) content (subst (λ (it : List ℕ). AreAfter lines it) joined after) (after_newline_alone content) in
     let flat : (lines ++ 10 ∷ []) ++ content ≡ lines ++ body = append_assoc lines (10 ∷ []) content ∙ ap (λ (it : List ℕ). lines ++ it) (sym joined) in
     let there : HasTagSignature ((lines ++ 10 ∷ []) ++ content) signature signed format =
     subst (λ (it : List ℕ). HasTagSignature it signature signed format) (sym flat) has in
-    let past : length (lines ++ 10 ∷ []) ≤ there.place = ahead there.place format there.is_place.here in
-    let parts = cut (lines ++ 10 ∷ []) content signed signature there.joined (omega (arith, past, there.as_long)) in
+    let len_le : length (lines ++ 10 ∷ []) ≤ there.position = ahead there.position format there.is_marker_place.here in
+    let parts = prefix_of_append_eq (lines ++ 10 ∷ []) content signed signature there.joined (omega (arith, len_le, there.as_long)) in
     (parts.0, parts.1 ∙ append_assoc lines (10 ∷ []) parts.0)
 
 -- ---- the same lines
@@ -91,7 +91,7 @@ module _ (kind : Kind) (content : List ℕ) (tag : TagLines) (is : DecodesToTag 
   OwnSignature own = own ≡ Some signature
 
   found_by : (own : Option (List ℕ)) → IsFoundIn content own → OwnSignature own
-  found_by None none = absurd (no_marker_and_marker_place content has.place format has.is_place none)
+  found_by None none = absurd (no_marker_and_marker_place content has.position format has.is_marker_place none)
   found_by (Some bytes) (before, other, found) =
       ap Some (one_signature content bytes signature before signed other format found has).0
 

@@ -6,9 +6,9 @@ use Rattle.std.specs.Prelude.{map}
 use Rattle.gixobj_actor.specs.Actor.{NamesActor}
 use Rattle.gixobj_tokens.specs.CommitSignatures.{signature_field}
 use Rattle.gixobj_fields.proofs.HeaderFields.{header_unique, hex_digits_newline_free}
-use Rattle.gixobj_fields.proofs.Runs.{after_passed}
+use Rattle.gixobj_fields.proofs.Runs.{yields_after_pieces}
 use Rattle.gixobj_fields.specs.HeaderFormat.{BeginsWithHeader, Header, encode_field}
-use Rattle.gixobj_fields.specs.Runs.{Passes, complete}
+use Rattle.gixobj_fields.specs.Runs.{BeginsWithPieces, complete}
 use Rattle.gixobj_hash.specs.ByteStrings.{IsByteFree}
 use Rattle.gixobj_hash.specs.Bytes.{newline}
 use Rattle.gixobj_hash.specs.Hash.Hex.{IsIdHexOfKind}
@@ -33,28 +33,30 @@ lines_before_encoding commit = tree_line commit.tree
 actor_line_newline_free : (line : List ℕ) → NamesActor line → IsByteFree newline line
 actor_line_newline_free line (name, email, time, is) = is.one_line
 
-passes_parent_lines : (kind : Kind) (hexes : List (List ℕ)) (rest : List ℕ) (lines : List LineView) (following : State) (end : List ℕ)
-    → All (IsIdHexOfKind kind) hexes → Passes (BeginsWithLine kind) state.Parents rest lines following end
-    → Passes (BeginsWithLine kind) state.Parents (flat_map encode_parent hexes ++ rest) (map parent_line hexes ++ lines) following end
-passes_parent_lines kind [] rest lines following end are passes = passes
-passes_parent_lines kind (hex ∷ hexes) rest lines following end are passes =
+begins_with_parent_lines : (kind : Kind) (hexes : List (List ℕ)) (rest : List ℕ) (lines : List LineView) (following : State) (end : List ℕ)
+    → All (IsIdHexOfKind kind) hexes → BeginsWithPieces (BeginsWithLine kind) state.Parents rest lines following end
+    → BeginsWithPieces (BeginsWithLine kind) state.Parents (flat_map encode_parent hexes ++ rest) (map parent_line hexes ++ lines) following end
+begins_with_parent_lines kind [] rest lines following end are begins_with = begins_with
+begins_with_parent_lines kind (hex ∷ hexes) rest lines following end are begins_with =
     let P : List ℕ → Type 0 = IsIdHexOfKind kind in
     let one : IsIdHexOfKind kind hex = All-head P hex hexes are in
     let more = flat_map encode_parent hexes ++ rest in
-    let parts : Passes (BeginsWithLine kind) state.Parents (encode_parent hex ++ more) (parent_line hex ∷ (map parent_line hexes ++ lines)) following end = (
+    let parts : BeginsWithPieces (BeginsWithLine kind) state.Parents (encode_parent hex ++ more)
+    (parent_line hex ∷ (map parent_line hexes ++ lines)) following end = (
       state.Parents,
       more,
       parent_comes _ hex _ (has_field_of_encode_field (codes "parent") hex more (hex_digits_newline_free hex one.1), one),
-      passes_parent_lines kind hexes rest lines following end (All-tail P hex hexes are) passes,
+      begins_with_parent_lines kind hexes rest lines following end (All-tail P hex hexes are) begins_with,
     ) in
-    subst (λ (it : List ℕ). Passes (BeginsWithLine kind) state.Parents it (parent_line hex ∷ (map parent_line hexes ++ lines)) following end)
+    subst (λ (it : List ℕ). BeginsWithPieces (BeginsWithLine kind) state.Parents it (parent_line hex ∷ (map parent_line hexes ++ lines)) following end)
     (sym (append_assoc (encode_parent hex) (flat_map encode_parent hexes) rest)) parts
 
 module _ (kind : Kind) (content : List ℕ) (commit : CommitLines) (is : DecodesToCommit kind content commit) where
   -- bytes that begin with these lines of a decoded commit yield them
-  pub begins_passed : (rest : List ℕ) → Passes (BeginsWithLine kind) state.Tree (before_encoding commit ++ rest) (lines_before_encoding commit)
+  pub begins_with_lines_before_encoding : (rest : List ℕ) → BeginsWithPieces (BeginsWithLine kind) state.Tree (before_encoding commit ++ rest)
+      (lines_before_encoding commit)
       state.Encoding rest
-  begins_passed rest =
+  begins_with_lines_before_encoding rest =
       let committer_rest = encode_field (codes "committer") commit.committer ++ rest in
       let author_rest = encode_field (codes "author") commit.author ++ committer_rest in
       let parents_rest = flat_map encode_parent commit.parents ++ author_rest in
@@ -62,7 +64,7 @@ module _ (kind : Kind) (content : List ℕ) (commit : CommitLines) (is : Decodes
       ++ encode_field (codes "committer") commit.committer) ++ rest ≡ encode_field (codes "tree") commit.tree
       ++ (flat_map encode_parent commit.parents ++ (encode_field (codes "author") commit.author
       ++ (encode_field (codes "committer") commit.committer ++ rest))) = simp append_assoc in
-      let committed : Passes (BeginsWithLine kind) state.Committer committer_rest (committer_line commit.committer ∷ []) state.Encoding rest = (
+      let committed : BeginsWithPieces (BeginsWithLine kind) state.Committer committer_rest (committer_line commit.committer ∷ []) state.Encoding rest = (
         state.Encoding,
         rest,
         committer_comes _ commit.committer _ (
@@ -71,7 +73,7 @@ module _ (kind : Kind) (content : List ℕ) (commit : CommitLines) (is : Decodes
         ),
         (refl, refl),
       ) in
-      let authored : Passes (BeginsWithLine kind) state.Parents author_rest (author_line commit.author ∷ committer_line commit.committer ∷ [])
+      let authored : BeginsWithPieces (BeginsWithLine kind) state.Parents author_rest (author_line commit.author ∷ committer_line commit.committer ∷ [])
       state.Encoding rest = (
         state.Committer,
         committer_rest,
@@ -81,9 +83,9 @@ module _ (kind : Kind) (content : List ℕ) (commit : CommitLines) (is : Decodes
         ),
         committed,
       ) in
-      let parented = passes_parent_lines kind commit.parents author_rest (author_line commit.author ∷ committer_line commit.committer ∷ [])
+      let parented = begins_with_parent_lines kind commit.parents author_rest (author_line commit.author ∷ committer_line commit.committer ∷ [])
       state.Encoding rest is.parents authored in
-      let entire : Passes (BeginsWithLine kind) state.Tree (encode_field (codes "tree") commit.tree ++ parents_rest) (lines_before_encoding commit)
+      let entire : BeginsWithPieces (BeginsWithLine kind) state.Tree (encode_field (codes "tree") commit.tree ++ parents_rest) (lines_before_encoding commit)
       state.Encoding rest = (
         state.Parents,
         parents_rest,
@@ -93,7 +95,7 @@ module _ (kind : Kind) (content : List ℕ) (commit : CommitLines) (is : Decodes
         ),
         parented,
       ) in
-      subst (λ (it : List ℕ). Passes (BeginsWithLine kind) state.Tree it (lines_before_encoding commit) state.Encoding rest) (sym flat) entire
+      subst (λ (it : List ℕ). BeginsWithPieces (BeginsWithLine kind) state.Tree it (lines_before_encoding commit) state.Encoding rest) (sym flat) entire
 
 -- ---- the same lines have the same parts
 
@@ -196,10 +198,10 @@ module _ (kind : Kind) (content signed : List ℕ) (commit read : CommitLines) (
       let rest = (encode_encoding commit.encoding ++ encoded) ++ 10 ∷ commit.message in
       let flat : (leading commit ++ encoded) ++ 10 ∷ commit.message ≡ before_encoding commit ++ rest =
       append_assoc_of_four (before_encoding commit) (encode_encoding commit.encoding) encoded (10 ∷ commit.message) in
-      let passes : Passes (BeginsWithLine kind) state.Tree signed (lines_before_encoding commit) state.Encoding rest =
-      subst (λ (it : List ℕ). Passes (BeginsWithLine kind) state.Tree it (lines_before_encoding commit) state.Encoding rest) (sym (joined ∙ flat))
-      (begins_passed kind content commit is rest) in
-      let at = after_passed (BeginsWithLine kind) (line_unique kind) (no_line_of_nil kind) state.Tree state.Encoding signed rest
-      (lines_before_encoding commit) (lines_of_commit read) complete passes (yields_lines_of_commit kind signed read again) in
+      let begins_with : BeginsWithPieces (BeginsWithLine kind) state.Tree signed (lines_before_encoding commit) state.Encoding rest =
+      subst (λ (it : List ℕ). BeginsWithPieces (BeginsWithLine kind) state.Tree it (lines_before_encoding commit) state.Encoding rest) (sym (joined ∙ flat))
+      (begins_with_lines_before_encoding kind content commit is rest) in
+      let at = yields_after_pieces (BeginsWithLine kind) (line_unique kind) (no_line_of_nil kind) state.Tree state.Encoding signed rest
+      (lines_before_encoding commit) (lines_of_commit read) complete begins_with (yields_lines_of_commit kind signed read again) in
       let same = lines_of_commit_injective commit read at.others at.joined in
       record { tree = same.0; parents = same.1; author = same.2; committer = same.3; message = same_message }

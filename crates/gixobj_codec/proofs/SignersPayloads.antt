@@ -83,7 +83,7 @@ module _ {S : Type 0} (runs : S → CallView → Answer → S → Type 0) (optio
     payload = tag.payload_of_tag (tag_views.owned_tag_lines it);
     bytes = is.bytes;
     called = is.called;
-    found = λ marker passed seen format has.
-        signed_data_is_payload_of_tag (tag_views.owned_tag_lines it) is.bytes passed seen format marker
-        (subst (λ (lines : TagLines). tags.HasTagSignature (encode_tag lines) passed seen format) is.lines has);
+    found = λ marker found_signature seen format has.
+        signed_data_is_payload_of_tag (tag_views.owned_tag_lines it) is.bytes found_signature seen format marker
+        (subst (λ (lines : TagLines). tags.HasTagSignature (encode_tag lines) found_signature seen format) is.lines has);
   }

@@ -9,7 +9,7 @@ use Rattle.gixobj_fields.specs.HeaderFormat.{encode_field}
 use Rattle.gixobj_hash.specs.Kind.{kind_name}
 use Rattle.gixobj_hash.specs.declared.hash.kind.Kind.{Kind}
 use Rattle.gixobj_text.proofs.MarkerPlaces.{no_marker_and_marker_place, format_of_marker_unique, marker_place_unique}
-use Rattle.gixobj_text.specs.Markers.{BeginsWithMarker, HasNoMarker, IsMarkerOf, IsMarkerPlace, MarksPlace, StartsLine, pgp_message, pgp_signature, signed_message, ssh_signature}
+use Rattle.gixobj_text.specs.Markers.{BeginsWithMarker, HasNoMarker, IsMarkerOf, IsMarkerPlace, HasMarkerAt, StartsLine, pgp_message, pgp_signature, signed_message, ssh_signature}
 use Rattle.gixobj_text.specs.declared.signature.Format.{Format}
 use Rattle.gixobj_text.specs.declared.signature.SignatureRef.{SignatureRef}
 use Rattle.gixobj_ref_iter.specs.TagExtracting.{FindsSignatureOfTag}
@@ -23,14 +23,14 @@ use Rattle.gixobj_hash.proofs.Splits.{byte_free_of_all_pass}
 use Rattle.gixobj_hash.specs.ByteStrings.{IsByteFree}
 use Rattle.gixobj_signature.specs.SignedBytes.{signed_bytes}
 use Rattle.gixobj_signature.specs.declared.signature.signed_data.SignedData.{SignedData}
-use Rattle.gixobj_codec.proofs.TagsExtracted.{marks_place_after_prefix, append_split_unique}
+use Rattle.gixobj_codec.proofs.TagsExtracted.{has_marker_at_after_prefix, append_split_unique}
 use Rattle.gixobj_codec.specs.SameSignatures.{AreTheSame}
 
 -- ---- positions of markers after lines
 
 -- no marker is at a position within the prefix
 abbrev pub AreAfter : List ℕ → List ℕ → Type 0
-AreAfter leading rest = (place : ℕ) (format : Format) → MarksPlace (leading ++ rest) place format → length leading ≤ place
+AreAfter leading rest = (position : ℕ) (format : Format) → HasMarkerAt (leading ++ rest) position format → length leading ≤ position
 
 marker_begins_with_dash : (format : Format) (marker : List ℕ) → IsMarkerOf format marker → (rest : List ℕ) × (marker ≡ 45 ∷ rest)
 marker_begins_with_dash _ _ pgp_signature = (codes "----BEGIN PGP SIGNATURE-----", refl)
@@ -55,22 +55,23 @@ line_len_le_lines_len (byte ∷ line) (other ∷ lines) rest after free same =
     omega (arith, shorter)
 
 -- a line that begins with another byte than a marker, by the bytes before a position: none, or lines
-line_len_le_marker_place : (byte : ℕ) (line rest leading after : List ℕ) (place : ℕ) (format : Format) → byte ≢ 45 → IsByteFree 10 (byte ∷ line)
-    → (byte ∷ line) ++ 10 ∷ rest ≡ leading ++ after → length leading ≡ place
-    → BeginsWithMarker format after → StartsLine leading → length ((byte ∷ line) ++ 10 ∷ []) ≤ place
-line_len_le_marker_place byte line rest leading after place format other free joined as_long begins (inl none) =
+line_len_le_marker_place : (byte : ℕ) (line rest leading after : List ℕ) (position : ℕ) (format : Format) → byte ≢ 45 → IsByteFree 10 (byte ∷ line)
+    → (byte ∷ line) ++ 10 ∷ rest ≡ leading ++ after → length leading ≡ position
+    → BeginsWithMarker format after → StartsLine leading → length ((byte ∷ line) ++ 10 ∷ []) ≤ position
+line_len_le_marker_place byte line rest leading after position format other free joined as_long begins (inl none) =
     absurd (no_marker_of_other_byte byte (line ++ 10 ∷ rest) after format other (sym (joined ∙ ap (λ (it : List ℕ). it ++ after) none)) begins)
-line_len_le_marker_place byte line rest leading after place format other free joined as_long begins (inr (lines, ends)) =
-    let cut : (byte ∷ line) ++ 10 ∷ rest ≡ lines ++ 10 ∷ after = joined ∙ ap (λ (it : List ℕ). it ++ after) ends
+line_len_le_marker_place byte line rest leading after position format other free joined as_long begins (inr (lines, ends)) =
+    let bytes_are : (byte ∷ line) ++ 10 ∷ rest ≡ lines ++ 10 ∷ after = joined ∙ ap (λ (it : List ℕ). it ++ after) ends
     ∙ append_assoc lines (10 ∷ []) after in
-    let within : length (byte ∷ line) ≤ length lines = line_len_le_lines_len (byte ∷ line) lines rest after free cut in
+    let within : length (byte ∷ line) ≤ length lines = line_len_le_lines_len (byte ∷ line) lines rest after free bytes_are in
     let long : length leading ≡ length lines + 1 = ap length ends ∙ length-append lines (10 ∷ []) in
     let longer : length ((byte ∷ line) ++ 10 ∷ []) ≡ length (byte ∷ line) + 1 = length-append (byte ∷ line) (10 ∷ []) in
     omega (arith, within, long, longer, as_long)
 
 are_after_line : (byte : ℕ) (line rest : List ℕ) → byte ≢ 45 → IsByteFree 10 (byte ∷ line) → AreAfter ((byte ∷ line) ++ 10 ∷ []) rest
-are_after_line byte line rest other free place format it =
-    line_len_le_marker_place byte line rest it.prefix it.rest place format other free (sym (append_assoc (byte ∷ line) (10 ∷ []) rest) ∙ it.joined) it.as_long
+are_after_line byte line rest other free position format it =
+    line_len_le_marker_place byte line rest it.prefix it.rest position format other free (sym (append_assoc (byte ∷ line) (10 ∷ []) rest)
+    ∙ it.joined) it.as_long
     it.marked
     it.starts
 
@@ -83,17 +84,17 @@ are_after_field byte name value rest other named one_line =
     subst (λ (leading : List ℕ). AreAfter leading rest) flat (are_after_line byte (name ++ 32 ∷ value) rest other free)
 
 pub also_after : (a b rest : List ℕ) → AreAfter a (b ++ rest) → AreAfter b rest → AreAfter (a ++ b) rest
-also_after a b rest after_a after_b place format it =
-    let flat : MarksPlace (a ++ (b ++ rest)) place format = subst (λ (content : List ℕ). MarksPlace content place format)
+also_after a b rest after_a after_b position format it =
+    let flat : HasMarkerAt (a ++ (b ++ rest)) position format = subst (λ (content : List ℕ). HasMarkerAt content position format)
     (append_assoc a b rest) it in
-    let past : length a ≤ place = after_a place format flat in
-    let more : length b ≤ place - length a = after_b (place - length a) format (marks_place_after_prefix a (b ++ rest) place format past flat) in
-    omega (arith, past, more, length-append a b)
+    let len_le : length a ≤ position = after_a position format flat in
+    let more : length b ≤ position - length a = after_b (position - length a) format (has_marker_at_after_prefix a (b ++ rest) position format len_le flat) in
+    omega (arith, len_le, more, length-append a b)
 
 -- ---- the lines of a tag
 
 are_after_tagger : (tagger : Option (List ℕ)) (input body : List ℕ) → BeginsWithTagger input tagger body → AreAfter (encode_tagger tagger) body
-are_after_tagger None input body has = λ place format it. omega arith
+are_after_tagger None input body has = λ position format it. omega arith
 are_after_tagger (Some line) input body has = are_after_field 116 (codes "agger") line body (λ same. omega (arith, same))
     (byte_free_of_all_pass 10 (codes "tagger") refl) has.0.one_line
 
@@ -133,15 +134,15 @@ after_lines kind content tag reads =
     name_after)
     (are_after_tagger tag.tagger reads.after_name reads.body reads.tagger)
 
-one_le_marker_place : (rest leading after : List ℕ) (place : ℕ) (format : Format) → 10 ∷ rest ≡ leading ++ after → length leading ≡ place
-    → BeginsWithMarker format after → StartsLine leading → 1 ≤ place
-one_le_marker_place rest leading after place format joined as_long begins (inl none) =
+one_le_marker_place : (rest leading after : List ℕ) (position : ℕ) (format : Format) → 10 ∷ rest ≡ leading ++ after → length leading ≡ position
+    → BeginsWithMarker format after → StartsLine leading → 1 ≤ position
+one_le_marker_place rest leading after position format joined as_long begins (inl none) =
     absurd (no_marker_of_other_byte 10 rest after format (λ same. omega (arith, same)) (sym (joined ∙ ap (λ (it : List ℕ). it ++ after) none)) begins)
-one_le_marker_place rest leading after place format joined as_long begins (inr (lines, ends)) =
+one_le_marker_place rest leading after position format joined as_long begins (inr (lines, ends)) =
     omega (arith, as_long, ap length ends, length-append lines (10 ∷ []))
 
 pub after_newline_alone : (rest : List ℕ) → AreAfter (10 ∷ []) rest
-after_newline_alone rest place format it = one_le_marker_place rest it.prefix it.rest place format it.joined it.as_long it.marked it.starts
+after_newline_alone rest position format it = one_le_marker_place rest it.prefix it.rest position format it.joined it.as_long it.marked it.starts
 
 -- ---- the marker of the body is that of the encoding
 
@@ -155,7 +156,7 @@ and_true_second true b both = both
 and_true_second false b both = cc both
 
 pub no_marker_in_newlines : (body : List ℕ) → IsTrue (are_newlines body) → HasNoMarker body
-no_marker_in_newlines body are place format it =
+no_marker_in_newlines body are position format it =
     let both : (are_newlines it.prefix && are_newlines it.rest) ≡ true = sym (list_all-append (λ byte. byte == 10) it.prefix it.rest)
     ∙ ap are_newlines (sym it.joined) ∙ are in
     let rest : are_newlines it.rest ≡ true = and_true_second (are_newlines it.prefix) (are_newlines it.rest) both in
@@ -172,8 +173,8 @@ module _ (lines content : List ℕ) (after : AreAfter (lines ++ 10 ∷ []) conte
   started before (inl none) = inr (lines, ap (λ (it : List ℕ). leading ++ it) none ∙ append-nil leading)
   started before (inr (more, ends)) = inr (leading ++ more, ap (λ (it : List ℕ). leading ++ it) ends ∙ sym (append_assoc leading more (10 ∷ [])))
 
-  marks_after : (place : ℕ) (format : Format) → MarksPlace content place format → MarksPlace (leading ++ content) (length leading + place) format
-  marks_after place format it = record {
+  marks_after : (position : ℕ) (format : Format) → HasMarkerAt content position format → HasMarkerAt (leading ++ content) (length leading + position) format
+  marks_after position format it = record {
     prefix = leading ++ it.prefix;
     rest = it.rest;
     joined = ap (λ (rest : List ℕ). leading ++ rest) it.joined ∙ sym (append_assoc leading it.prefix it.rest);
@@ -182,28 +183,28 @@ module _ (lines content : List ℕ) (after : AreAfter (lines ++ 10 ∷ []) conte
     marked = it.marked;
   }
 
-  marks_bytes : (place : ℕ) (format : Format) → MarksPlace (leading ++ content) place format → MarksPlace content (place - length leading) format
-  marks_bytes place format it = marks_place_after_prefix leading content place format (after place format it) it
+  marks_bytes : (position : ℕ) (format : Format) → HasMarkerAt (leading ++ content) position format → HasMarkerAt content (position - length leading) format
+  marks_bytes position format it = has_marker_at_after_prefix leading content position format (after position format it) it
 
-  last_after : (place : ℕ) (format : Format) → IsMarkerPlace content place format → IsMarkerPlace (leading ++ content) (length leading + place) format
-  last_after place format is = record {
-    here = marks_after place format is.here;
+  last_after : (position : ℕ) (format : Format) → IsMarkerPlace content position format → IsMarkerPlace (leading ++ content) (length leading + position) format
+  last_after position format is = record {
+    here = marks_after position format is.here;
     last = λ other f it.
-        let past = after other f it in
+        let len_le = after other f it in
         let low = is.last (other - length leading) f (marks_bytes other f it) in
-        omega (arith, past, low);
+        omega (arith, len_le, low);
   }
 
   parted_found : (message : List ℕ) (signature : Option (List ℕ)) → IsParted content message signature → IsFoundIn (leading ++ content) signature
-  parted_found message signature (unsigned _ none) = λ place format it. none (place - length leading) format (marks_bytes place format it)
+  parted_found message signature (unsigned _ none) = λ position format it. none (position - length leading) format (marks_bytes position format it)
   parted_found message signature (signed_at_once _ format is) =
-      (leading, format, record { place = length leading + 0; is_place = last_after 0 format is; joined = refl; as_long = omega arith })
+      (leading, format, record { position = length leading + 0; is_marker_place = last_after 0 format is; joined = refl; as_long = omega arith })
   parted_found message signature (signed _ _ bytes format joined is) = (
     leading ++ (message ++ 10 ∷ []),
     format,
     record {
-      place = length leading + (length message + 1);
-      is_place = last_after (length message + 1) format is;
+      position = length leading + (length message + 1);
+      is_marker_place = last_after (length message + 1) format is;
       joined = ap (λ (it : List ℕ). leading ++ it) (joined ∙ sym (append_assoc message (10 ∷ []) bytes))
           ∙ sym (append_assoc leading (message ++ 10 ∷ []) bytes);
       as_long = length-append leading (message ++ 10 ∷ []) ∙ ap (λ n. length leading + n) (length-append message (10 ∷ []));
@@ -213,8 +214,8 @@ module _ (lines content : List ℕ) (after : AreAfter (lines ++ 10 ∷ []) conte
 is_found_in_body : (lines body message : List ℕ) (signature : Option (List ℕ)) → AreAfter lines body → IsBody body message signature
     → IsFoundIn (lines ++ body) signature
 is_found_in_body lines body message signature after (newlines_alone _ are) =
-    λ place format it. no_marker_in_newlines body are (place - length lines) format
-    (marks_place_after_prefix lines body place format (after place format it) it)
+    λ position format it. no_marker_in_newlines body are (position - length lines) format
+    (has_marker_at_after_prefix lines body position format (after position format it) it)
 is_found_in_body lines body message signature after (after_a_newline _ content _ _ joined more parted) =
     let ahead : AreAfter (lines ++ 10 ∷ []) content = also_after lines (10 ∷ []) content (subst (λ (it : List ℕ). AreAfter lines it) joined after)
     (after_newline_alone content) in
@@ -232,7 +233,7 @@ tag_found kind content tag reads =
 pub one_signature : (content signature signature' before before' : List ℕ) (format format' : Format) → HasTagSignature content signature before format
     → HasTagSignature content signature' before' format' → (signature ≡ signature') × (format ≡ format')
 one_signature content signature signature' before before' format format' has has' =
-    let one = marker_place_unique content has.place has'.place format format' has.is_place has'.is_place in
+    let one = marker_place_unique content has.position has'.position format format' has.is_marker_place has'.is_marker_place in
     let split = append_split_unique before signature before' signature' (sym has.joined ∙ has'.joined) (has.as_long ∙ one.0 ∙ sym has'.as_long) in
     (split.1, one.1)
 
@@ -240,7 +241,7 @@ one_signature content signature signature' before before' format format' has has
 signature_begins_with_marker : (content signature before : List ℕ) (format : Format) → HasTagSignature content signature before format
     → BeginsWithMarker format signature
 signature_begins_with_marker content signature before format has =
-    let here = has.is_place.here in
+    let here = has.is_marker_place.here in
     let split = append_split_unique here.prefix here.rest before signature (sym here.joined ∙ has.joined) (here.as_long ∙ sym has.as_long) in
     subst (λ (it : List ℕ). BeginsWithMarker format it) split.1 here.marked
 
@@ -248,16 +249,16 @@ found_signatures_are_the_same : (content : List ℕ) (signature : Option (List �
     → IsFoundIn content signature
     → IsSignature signature own
     → IfSome found (FindsSignatureOfTag content) → IfNone found (HasNoMarker content) → AreTheSame own found
-found_signatures_are_the_same content None None None is own passed none = tt
-found_signatures_are_the_same content None None (Some found) is own passed none =
-    absurd (no_marker_and_marker_place content passed.place found.0.format passed.is_place is)
-found_signatures_are_the_same content None (Some it) found is own passed none = absurd own
-found_signatures_are_the_same content (Some bytes) None found (before, format, has) own passed none =
+found_signatures_are_the_same content None None None is own has_own none = tt
+found_signatures_are_the_same content None None (Some found) is own has_own none =
+    absurd (no_marker_and_marker_place content has_own.position found.0.format has_own.is_marker_place is)
+found_signatures_are_the_same content None (Some it) found is own has_own none = absurd own
+found_signatures_are_the_same content (Some bytes) None found (before, format, has) own has_own none =
     absurd (own format (signature_begins_with_marker content bytes before format has))
-found_signatures_are_the_same content (Some bytes) (Some it) None (before, format, has) own passed none =
-    absurd (no_marker_and_marker_place content has.place format has.is_place none)
-found_signatures_are_the_same content (Some bytes) (Some it) (Some found) (before, format, has) own passed none =
-    let one = one_signature content (bstr_bytes found.0.bytes) bytes (signed_bytes found.1) before found.0.format format passed has in
+found_signatures_are_the_same content (Some bytes) (Some it) None (before, format, has) own has_own none =
+    absurd (no_marker_and_marker_place content has.position format has.is_marker_place none)
+found_signatures_are_the_same content (Some bytes) (Some it) (Some found) (before, format, has) own has_own none =
+    let one = one_signature content (bstr_bytes found.0.bytes) bytes (signed_bytes found.1) before found.0.format format has_own has in
     (one.0 ∙ sym own.0, one.1 ∙ format_of_marker_unique bytes format it.format (signature_begins_with_marker content bytes before format has) own.1)
 
 pub tag_signatures_are_same : (kind : Kind) (content : List ℕ) (tag : TagLines) (own : Option SignatureRef) (found : Option (SignatureRef × SignedData))

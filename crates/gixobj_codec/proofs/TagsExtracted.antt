@@ -2,7 +2,7 @@
 -- `TagsAgree`.
 use Rattle.std.proofs.Common.{◌≡◌, inl, inr, ◌≤◌, ◌-◌, ◌∙◌, ℕ, List, [], ◌∷◌, ◌++◌, Some, None, arith, length, refl, sym, ap, subst, append_assoc, append-nil}
 use Rattle.std.proofs.lemmas.List.{length-append}
-use Rattle.gixobj_text.specs.Markers.{BeginsWithMarker, HasNoMarker, IsMarkerPlace, MarksPlace, StartsLine}
+use Rattle.gixobj_text.specs.Markers.{BeginsWithMarker, HasNoMarker, IsMarkerPlace, HasMarkerAt, StartsLine}
 use Rattle.gixobj_text.specs.declared.signature.Format.{Format}
 use Rattle.gixobj_tag.specs.TagFormat.{TagLines, encode_tag_lines}
 use Rattle.gixobj_tag.specs.TagWriting.{encode_message, encode_tag}
@@ -11,13 +11,14 @@ use Rattle.gixobj_tag.specs.TagSigning.{payload_of_tag, signed_as}
 use Rattle.gixobj_codec.specs.OneMarker.{HasOneMarker}
 
 -- of two splits of the same bytes, the longer prefix is the shorter one and more
-pub cut : (p bytes head rest : List ℕ) → p ++ bytes ≡ head ++ rest → length p ≤ length head → (more : List ℕ) × (head ≡ p ++ more) × (bytes ≡ more ++ rest)
-cut [] bytes head rest same long = (head, refl, same)
-cut (byte ∷ p) bytes [] rest same long = absurd (omega arith)
-cut (byte ∷ p) bytes (other ∷ head) rest same long =
+pub prefix_of_append_eq : (p bytes head rest : List ℕ) → p ++ bytes ≡ head ++ rest → length p ≤ length head
+    → (more : List ℕ) × (head ≡ p ++ more) × (bytes ≡ more ++ rest)
+prefix_of_append_eq [] bytes head rest same long = (head, refl, same)
+prefix_of_append_eq (byte ∷ p) bytes [] rest same long = absurd (omega arith)
+prefix_of_append_eq (byte ∷ p) bytes (other ∷ head) rest same long =
     let first : byte ≡ other = cc same in
     let tail : p ++ bytes ≡ head ++ rest = cc same in
-    let (more, joined, remaining) = cut p bytes head rest tail (omega arith) in
+    let (more, joined, remaining) = prefix_of_append_eq p bytes head rest tail (omega arith) in
     (more, cc (first, joined), remaining)
 
 suffix_nil_of_append_nil : (p more : List ℕ) → p ++ more ≡ [] → more ≡ []
@@ -35,10 +36,10 @@ starts_line_of_suffix p more head is (inl none) = inl (suffix_nil_of_append_nil 
 starts_line_of_suffix p more head is (inr (lines, ends)) = starts_line_of_lines_suffix p more lines (sym is ∙ ends)
 
 -- a marker after a prefix marks a position of the rest
-pub marks_place_after_prefix : (p bytes : List ℕ) (place : ℕ) (format : Format) → length p ≤ place → MarksPlace (p ++ bytes) place format
-    → MarksPlace bytes (place - length p) format
-marks_place_after_prefix p bytes place format past it =
-    let parts = cut p bytes it.prefix it.rest it.joined (omega (arith, it.as_long)) in
+pub has_marker_at_after_prefix : (p bytes : List ℕ) (position : ℕ) (format : Format) → length p ≤ position → HasMarkerAt (p ++ bytes) position format
+    → HasMarkerAt bytes (position - length p) format
+has_marker_at_after_prefix p bytes position format len_le it =
+    let parts = prefix_of_append_eq p bytes it.prefix it.rest it.joined (omega (arith, it.as_long)) in
     record {
       prefix = parts.0;
       rest = it.rest;
@@ -64,11 +65,11 @@ signed_tag_append_assoc lines message signature = simp (append_assoc, append-nil
 pub signed_tag_bytes : (tag : TagLines) (bytes : List ℕ) → encode_tag (signed_as (Some bytes) tag) ≡ payload_of_tag tag ++ bytes
 signed_tag_bytes tag bytes = signed_tag_append_assoc (encode_tag_lines tag) (encode_message tag.message) bytes
 
-marker_place_eq_payload_len : (unsigned bytes : List ℕ) (place : ℕ) (format own : Format) → BeginsWithMarker own bytes
-    → ((other_place : ℕ) (other : Format) → MarksPlace bytes other_place other → other_place ≡ 0)
-    → IsMarkerPlace ((unsigned ++ 10 ∷ []) ++ bytes) place format → place ≡ length (unsigned ++ 10 ∷ [])
-marker_place_eq_payload_len unsigned bytes place format own begins one is =
-    let here : MarksPlace ((unsigned ++ 10 ∷ []) ++ bytes) (length (unsigned ++ 10 ∷ [])) own = record {
+marker_place_eq_payload_len : (unsigned bytes : List ℕ) (position : ℕ) (format own : Format) → BeginsWithMarker own bytes
+    → ((other_position : ℕ) (other : Format) → HasMarkerAt bytes other_position other → other_position ≡ 0)
+    → IsMarkerPlace ((unsigned ++ 10 ∷ []) ++ bytes) position format → position ≡ length (unsigned ++ 10 ∷ [])
+marker_place_eq_payload_len unsigned bytes position format own begins one is =
+    let here : HasMarkerAt ((unsigned ++ 10 ∷ []) ++ bytes) (length (unsigned ++ 10 ∷ [])) own = record {
       prefix = unsigned ++ 10 ∷ [];
       rest = bytes;
       joined = refl;
@@ -76,26 +77,27 @@ marker_place_eq_payload_len unsigned bytes place format own begins one is =
       starts = inr (unsigned, refl);
       marked = begins;
     } in
-    let past : length (unsigned ++ 10 ∷ []) ≤ place = is.last (length (unsigned ++ 10 ∷ [])) own here in
-    let none : place - length (unsigned ++ 10 ∷ []) ≡ 0 = one _ format (marks_place_after_prefix (unsigned ++ 10 ∷ []) bytes place format past is.here) in
-    omega (arith, past, none)
+    let len_le : length (unsigned ++ 10 ∷ []) ≤ position = is.last (length (unsigned ++ 10 ∷ [])) own here in
+    let none : position - length (unsigned ++ 10 ∷ []) ≡ 0 = one _ format
+    (has_marker_at_after_prefix (unsigned ++ 10 ∷ []) bytes position format len_le is.here) in
+    omega (arith, len_le, none)
 
 -- the payload and the signature that are found are the tag's and the signer's
 pub signed_data_is_payload_of_tag : (tag : TagLines) (bytes signature signed : List ℕ) (format : Format) → HasOneMarker bytes
     → HasTagSignature (encode_tag (signed_as (Some bytes) tag)) signature signed format → (signed ≡ payload_of_tag tag) × (signature ≡ bytes)
 signed_data_is_payload_of_tag tag bytes signature signed format marker has =
-    let is : IsMarkerPlace (payload_of_tag tag ++ bytes) has.place format = subst (λ (it : List ℕ). IsMarkerPlace it has.place format)
-    (signed_tag_bytes tag bytes) has.is_place in
-    let place : has.place ≡ length (payload_of_tag tag) = marker_place_eq_payload_len
-    (encode_tag (signed_as None tag)) bytes has.place format marker.format marker.begins
+    let is : IsMarkerPlace (payload_of_tag tag ++ bytes) has.position format = subst (λ (it : List ℕ). IsMarkerPlace it has.position format)
+    (signed_tag_bytes tag bytes) has.is_marker_place in
+    let position : has.position ≡ length (payload_of_tag tag) = marker_place_eq_payload_len
+    (encode_tag (signed_as None tag)) bytes has.position format marker.format marker.begins
     marker.one is in
-    append_split_unique signed signature (payload_of_tag tag) bytes (sym has.joined ∙ signed_tag_bytes tag bytes) (has.as_long ∙ place)
+    append_split_unique signed signature (payload_of_tag tag) bytes (sym has.joined ∙ signed_tag_bytes tag bytes) (has.as_long ∙ position)
 
 -- the encoding of a signed tag has a marker
 pub signed_tag_has_marker : (tag : TagLines) (bytes : List ℕ) → HasOneMarker bytes → ¬ HasNoMarker (encode_tag (signed_as (Some bytes) tag))
 signed_tag_has_marker tag bytes marker none =
     let payload = payload_of_tag tag in
-    let here : MarksPlace (payload ++ bytes) (length payload) marker.format = record {
+    let here : HasMarkerAt (payload ++ bytes) (length payload) marker.format = record {
       prefix = payload;
       rest = bytes;
       joined = refl;
@@ -104,4 +106,4 @@ signed_tag_has_marker tag bytes marker none =
       marked = marker.begins;
     } in
     none (length payload) marker.format
-    (subst (λ (it : List ℕ). MarksPlace it (length payload) marker.format) (sym (signed_tag_bytes tag bytes)) here)
+    (subst (λ (it : List ℕ). HasMarkerAt it (length payload) marker.format) (sym (signed_tag_bytes tag bytes)) here)

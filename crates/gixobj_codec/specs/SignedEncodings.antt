@@ -47,5 +47,5 @@ pub record TagPayloadIsSigned {S : Type 0} (runs : S → CallView → Answer →
   pub payload : List ℕ
   pub bytes : List ℕ
   pub called : CarriesOut runs (sign_plan (sign_options_view options) payload) old (signature bytes) new
-  pub found : HasOneMarker bytes → (passed signed : List ℕ) (format : Format)
-      → tags.HasTagSignature content passed signed format → (signed ≡ payload) × (passed ≡ bytes)
+  pub found : HasOneMarker bytes → (found_signature signed : List ℕ) (format : Format)
+      → tags.HasTagSignature content found_signature signed format → (signed ≡ payload) × (found_signature ≡ bytes)

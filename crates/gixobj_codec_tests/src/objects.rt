@@ -48,7 +48,7 @@ fn has_header(alloc: Global, blob: &Blob, wanted: &[u8]) -> bool {
 }
 
 /// Returns whether the bytes are rejected for their invalid header.
-fn is_cut_short(alloc: Global, bytes: &[u8]) -> bool {
+fn has_invalid_header(alloc: Global, bytes: &[u8]) -> bool {
     holds!(
         ObjectRef::from_loose(alloc, bytes, HashKind::Sha1),
         Err(InvalidHeader(it)) =>
@@ -58,8 +58,8 @@ fn is_cut_short(alloc: Global, bytes: &[u8]) -> bool {
 
 #[test]
 fn rejects_blob_shorter_than_its_header_says(rt: HostRuntime) {
-    assert!(rt; is_cut_short(rt.alloc(), b"blob 5\0hell"));
-    assert!(rt; !is_cut_short(rt.alloc(), b"blob 5\0hello"));
+    assert!(rt; has_invalid_header(rt.alloc(), b"blob 5\0hell"));
+    assert!(rt; !has_invalid_header(rt.alloc(), b"blob 5\0hello"));
 }
 
 /// Returns whether a blob has this encoding and this loose header.

@@ -54,10 +54,10 @@ module _ (commit other : Commit) (others : other ≡ record commit { extra_heade
       → payload ≡ encode_commit (owned_commit_lines other) → RejectsNothing (IsOwnedCommitError other) → (old new : S)
       → (result : Result Commit Error) → IfOk result (GetsCommitSignature runs options payload name other old new)
       → IfOk result (IsSignedCommit runs options commit old new)
-  signed runs options payload content writable old new (Ok it) (bytes, went, lines) = record {
+  signed runs options payload content writable old new (Ok it) (bytes, written_is, lines) = record {
     bytes = bytes;
     called = subst (λ (signs : List ℕ). CarriesOut runs (sign_plan (sign_options_view options) signs) old (signature bytes) new)
-        (content ∙ ap encode_commit kept_lines) went;
+        (content ∙ ap encode_commit kept_lines) written_is;
     lines = lines ∙ ap (λ (of : CommitLines). with_last_header name bytes of) kept_lines
         ∙ ap (λ (it : List ℕ). with_last_header it bytes (without_headers (signature_field (id_kind commit.tree)) (owned_commit_lines commit))) named;
     writable = subst RejectsNothing rejects_same writable;

@@ -11,7 +11,7 @@ use Rattle.std.specs.Str.{bytes_eq}
 use Rattle.bstr.specs.BStr.{bstr_bytes}
 use Rattle.bstr.specs.declared.bstr.BStr.{BStr}
 use Rattle.gixobj_fields.specs.HeaderFormat.{Header}
-use Rattle.gixobj_commit.specs.ExtraHeaders.{FindsPlace, FindsValue, Gave, NextOfAll, HasFirstHeader, IsFirstPlace, IsFirstValue, HasNoHeaderNamed, header_at, pair_of, searched, searched_name, values_named}
+use Rattle.gixobj_commit.specs.ExtraHeaders.{FindsPosition, FindsValue, Gave, NextOfAll, HasFirstHeader, IsFirstPosition, IsFirstValue, HasNoHeaderNamed, header_at, pair_of, searched, searched_name, values_named}
 use Rattle.gixobj_commit.specs.declared.extra_headers.FindAll.{FindAll}
 
 -- ---- values in a list of headers
@@ -59,10 +59,10 @@ module _ {S : Type 0} (rest : S → List Header) where
   first_value name s None (to, (received, gave)) = subst (HasNoHeaderNamed name) (sym (all_came name s to received gave)) gave.1
   first_value name s (Some value) (to, (received, gave)) = (gave.1, rest to, first name s to received value gave)
 
-  pub first_place : (name : List ℕ) (s : S) (result : Option ℕ) → FindsPlace (YieldsFirstBy pair_of rest) name s result
-      → IsFirstPlace name (rest s) result
-  first_place name s None (received, to, gave) = first_value name s None (to, (received, gave))
-  first_place name s (Some place) (received, to, (value, gave, counted)) =
+  pub first_position : (name : List ℕ) (s : S) (result : Option ℕ) → FindsPosition (YieldsFirstBy pair_of rest) name s result
+      → IsFirstPosition name (rest s) result
+  first_position name s None (received, to, gave) = first_value name s None (to, (received, gave))
+  first_position name s (Some index) (received, to, (value, gave, counted)) =
       let last = gave.2.1 in (
         gave.1,
         rest to,

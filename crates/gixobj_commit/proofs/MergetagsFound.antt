@@ -48,22 +48,23 @@ module _ {S : Type 0} (rest : S → List Header) where
 
   -- ---- a run to its end
 
-  run_passed : (kind : Kind) (s last after : Mergetags S) (passed : List (Result TagRef Error)) → mergetag_kind s ≡ kind → Yields Steps s passed last
+  run_consumed_are_tags : (kind : Kind) (s last after : Mergetags S) (consumed : List (Result TagRef Error)) → mergetag_kind s ≡ kind
+      → Yields Steps s consumed last
       → Steps last None after
-      → AllZip (IsTagOf kind) (remaining_mergetags rest s) passed
-  run_passed kind s last after [] same yielded none =
+      → AllZip (IsTagOf kind) (remaining_mergetags rest s) consumed
+  run_consumed_are_tags kind s last after [] same yielded none =
       let bare : remaining_mergetags rest s ≡ [] =
       nil_from_length (remaining_mergetags rest s) (ap (λ it. length (remaining_mergetags rest it)) yielded ∙ none_remaining last after none) in
       subst (λ (it : List (List ℕ)). AllZip (IsTagOf kind) it []) (sym bare) tt
-  run_passed kind s last after (item ∷ passed) same (next, step, yielded) none =
+  run_consumed_are_tags kind s last after (item ∷ consumed) same (next, step, yielded) none =
       let it = came s next item step in
       let is : IsTagOf kind it.value item = subst (λ (of : Kind). IsTagOf of it.value item) same it.is in
-      subst (λ (values : List (List ℕ)). AllZip (IsTagOf kind) values (item ∷ passed)) (sym it.joined)
-      (is, run_passed kind next last after passed (it.same ∙ same) yielded none)
+      subst (λ (values : List (List ℕ)). AllZip (IsTagOf kind) values (item ∷ consumed)) (sym it.joined)
+      (is, run_consumed_are_tags kind next last after consumed (it.same ∙ same) yielded none)
 
-  pub all_passed : (s after : Mergetags S) (passed : List (Result TagRef Error)) → YieldsThen Steps s passed None after
-      → AllZip (IsTagOf (mergetag_kind s)) (remaining_mergetags rest s) passed
-  all_passed s after passed (last, yielded, none) = run_passed (mergetag_kind s) s last after passed refl yielded none
+  pub all_consumed_are_tags : (s after : Mergetags S) (consumed : List (Result TagRef Error)) → YieldsThen Steps s consumed None after
+      → AllZip (IsTagOf (mergetag_kind s)) (remaining_mergetags rest s) consumed
+  all_consumed_are_tags s after consumed (last, yielded, none) = run_consumed_are_tags (mergetag_kind s) s last after consumed refl yielded none
 
   -- ---- the list of all results
 

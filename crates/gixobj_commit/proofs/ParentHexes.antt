@@ -16,8 +16,8 @@ first_parent_is_id_hex bytes encodings all = is_id_hex_of_kind bytes (All-head I
 
 pub other_parents_are_hex_of_their_kind : (encodings : List BStr) → 1 ≤ length encodings → All IsIdHexOfItsKind (map bstr_bytes encodings)
     → All IsIdHexOfItsKind (map bstr_bytes (take (length encodings - 1) (drop 1 encodings)))
-other_parents_are_hex_of_their_kind [] least all = absurd (omega arith)
-other_parents_are_hex_of_their_kind (first ∷ encodings) least all =
+other_parents_are_hex_of_their_kind [] minimum all = absurd (omega arith)
+other_parents_are_hex_of_their_kind (first ∷ encodings) minimum all =
     subst (λ it. All IsIdHexOfItsKind (map bstr_bytes it)) (sym (take_all (length {A = BStr} (first ∷ encodings) - 1) encodings (omega arith)))
     (All-tail IsIdHexOfItsKind (bstr_bytes first) (map bstr_bytes encodings) all)
 

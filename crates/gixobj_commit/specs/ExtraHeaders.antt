@@ -49,10 +49,10 @@ IsFirstValue name headers result = MatchOption result (HasNoHeaderNamed name hea
     (λ value. (others rest : List Header) × HasFirstHeader name headers others value rest)
 
 -- the position, from 0, of the first header of this name, or none if no header has it
-abbrev pub IsFirstPlace : List ℕ → List Header → Option ℕ → Type 0
-IsFirstPlace name headers result = MatchOption result (HasNoHeaderNamed name headers)
-    (λ place. (others rest : List Header) × (value : BStr) × HasFirstHeader name headers others value rest
-    × (place ≡ length others))
+abbrev pub IsFirstPosition : List ℕ → List Header → Option ℕ → Type 0
+IsFirstPosition name headers result = MatchOption result (HasNoHeaderNamed name headers)
+    (λ index. (others rest : List Header) × (value : BStr) × HasFirstHeader name headers others value rest
+    × (index ≡ length others))
 
 -- the values of all headers of this name, in order
 abbrev pub values_named : List ℕ → List Header → List (List ℕ)
@@ -62,22 +62,23 @@ module _ {S : Type 0} (steps : S → Option (BStr × BStr) → S → Type 0) (na
   -- the calls from one state to another yielded these headers: up to the first of this name, or all of them if none has
   -- it
   abbrev pub Gave : S → List (BStr × BStr) → Option BStr → S → Type 0
-  Gave from passed None to = YieldsThen steps from passed None to × HasNoHeaderNamed name (map pair_of passed)
-  Gave from passed (Some value) to = Yields steps from passed to × (others : List Header)
-      × HasFirstHeader name (map pair_of passed) others value []
+  Gave from consumed None to = YieldsThen steps from consumed None to × HasNoHeaderNamed name (map pair_of consumed)
+  Gave from consumed (Some value) to = Yields steps from consumed to × (others : List Header)
+      × HasFirstHeader name (map pair_of consumed) others value []
 
   -- the next value of this name, or none if the iterator ends first
   abbrev pub NextValue : S → Option BStr → S → Type 0
-  NextValue from result to = (passed : List (BStr × BStr)) × Gave from passed result to
+  NextValue from result to = (consumed : List (BStr × BStr)) × Gave from consumed result to
 
   -- the value of the first header of this name that the iterator yields, or none if it yields none
   abbrev pub FindsValue : S → Option BStr → Type 0
   FindsValue from result = (to : S) × NextValue from result to
 
   -- the number of headers that the iterator yields before the first of this name, or none if it yields none
-  abbrev pub FindsPlace : S → Option ℕ → Type 0
-  FindsPlace from result = (passed : List (BStr × BStr)) × (to : S) × MatchOption result (Gave from passed None to)
-      (λ place. (value : BStr) × Gave from passed (Some value) to × (length passed ≡ suc place))
+  abbrev pub FindsPosition : S → Option ℕ → Type 0
+  FindsPosition from result = (consumed : List (BStr × BStr)) × (to : S)
+      × MatchOption result (Gave from consumed None to)
+      (λ index. (value : BStr) × Gave from consumed (Some value) to × (length consumed ≡ suc index))
 
 -- one step of a search for all values of a name: the next of them, or none at the end
 abbrev pub NextOfAll : {S : Type 0} → (S → Option (BStr × BStr) → S → Type 0) → FindAll S → Option BStr → FindAll S

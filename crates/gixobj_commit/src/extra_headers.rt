@@ -4,7 +4,7 @@ ghost use Rattle.std.specs.Prelude.{◌≡◌, ◌↔◌, ◌<◌, ◌^◌, IsTr
 ghost use Rattle.bstr.specs.BStr.{bstr_bytes};
 ghost use Rattle.std.specs.Iterator.{IsFinite, MakesProgress, size};
 ghost use Rattle.gixobj_fields.specs.HeaderReading.{header_of, owned_header_of};
-ghost use Rattle.gixobj_commit.specs.ExtraHeaders.{FindsPlace, FindsValue, NextValue, hash_kind_of, iterator_of, searched, searched_name};
+ghost use Rattle.gixobj_commit.specs.ExtraHeaders.{FindsPosition, FindsValue, NextValue, hash_kind_of, iterator_of, searched, searched_name};
 ghost use Rattle.gixobj_tokens.specs.CommitSignatures.{signature_field};
 ghost use Rattle.gixobj_commit.specs.RemainingHeaders.{remaining_headers, remaining_owned_headers};
 ghost use Rattle.gixobj_commit.specs.Mergetags.{IsTagOf, mergetag_kind, mergetag_values};
@@ -64,14 +64,14 @@ impl<'a, I: Iterator<Item = (BStr<'a>, BStr<'a>)> + Drop> ExtraHeaders<I> {
         requires can_next { I.can_next (iterator_of self) }
         requires ends { IsFinite (I.remaining (iterator_of self)) }
         requires fits { size (I.remaining (iterator_of self)) < 2 ^ 64 }
-        ensures { FindsPlace I.next_gives name.now (iterator_of self) result }
+        ensures { FindsPosition I.next_gives name.now (iterator_of self) result }
     {
-        let mut place = 0;
+        let mut index = 0;
         for (key, _) in self.inner {
             if is_named(key, name) {
-                return Some(place);
+                return Some(index);
             }
-            place += 1;
+            index += 1;
         }
         None
     }

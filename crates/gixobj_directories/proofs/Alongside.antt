@@ -1,5 +1,5 @@
--- A walk along the entries of a directory and the open directories in it, in step: for the loops of a write and for
--- leaf trees.
+-- A walk along the entries of a directory meets each directory that is open in it at its entry: for the loops of a
+-- write and for leaf trees.
 use mathlib.Core.Bool.{true≢false}
 use Rattle.std.proofs.Common.{◌≡◌, ◌≢◌, ◌∙◌, ◌<◌, ◌+◌, inl, inr, ℕ, suc, true, false, cond, List, [], ◌∷◌, Option, Some, None, get_or, length, drop, refl, sym, ap, subst, add-one, drop-cons}
 use Rattle.std.specs.Cmp.Lexicographic.{bytes_decides, slice_cmp}
@@ -53,12 +53,12 @@ module _ (e : EntryView) (rest : List EntryView) (apart : AllByRecursion (λ y. 
   all_after (p ∷ ps) others h = (has_tree_in_tail p.0 e rest others.0 h.0, all_after ps others.1 h.1)
 
   -- an entry of tree mode with this name is the first entry
-  own_tree : (y : EntryView) → ContainsEntry (e ∷ rest) y → y.name ≡ e.name → is_tree_mode y.mode ≡ true → is_tree_mode e.mode ≡ true
-  own_tree y (inl same) named tree = ap (λ (x : EntryView). is_tree_mode x.mode) same ∙ tree
-  own_tree y (inr h) named tree = absurd (holds_of_contains (λ z. e.name ≢ z.name) rest y h apart (sym named))
+  written_tree : (y : EntryView) → ContainsEntry (e ∷ rest) y → y.name ≡ e.name → is_tree_mode y.mode ≡ true → is_tree_mode e.mode ≡ true
+  written_tree y (inl same) named tree = ap (λ (x : EntryView). is_tree_mode x.mode) same ∙ tree
+  written_tree y (inr h) named tree = absurd (holds_of_contains (λ z. e.name ≢ z.name) rest y h apart (sym named))
 
   own_key : (name : List ℕ) → name ≡ e.name → has_tree name (e ∷ rest) ≡ true → entry_key e ≡ key_of name true
-  own_key name is h = let y = entry_of_has_tree name (e ∷ rest) h in ap (key_of e.name) (own_tree y.0 y.1 (y.2 ∙ is) y.3)
+  own_key name is h = let y = entry_of_has_tree name (e ∷ rest) h in ap (key_of e.name) (written_tree y.0 y.1 (y.2 ∙ is) y.3)
       ∙ ap (λ (n : List ℕ). key_of n true)
       (sym is)
 

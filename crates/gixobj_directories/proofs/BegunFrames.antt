@@ -15,7 +15,7 @@ use Rattle.gixobj_files.specs.declared.written_tree.WrittenTree.{WrittenTree}
 use Rattle.gixobj_files.specs.declared.written_tree.WrittenTree.TheVariants.{Prefix}
 use Rattle.gixobj_directories.specs.Calls.{IsStorable}
 use Rattle.gixobj_open.specs.Children.{remaining_list}
-use Rattle.gixobj_directories.specs.Frames.{Ahead, EmitsAfter, EmitsNext, EmitsOwn, HasCome, HasResumed, IsBegun, IsInStep, Waits, child_weight, frame_weight, held_entries, own_entries, remaining_entries, weight_of}
+use Rattle.gixobj_directories.specs.Frames.{Ahead, EmitsAfter, EmitsNext, EmitsWritten, HasCome, HasResumed, IsBegun, IsInStep, Waits, child_weight, frame_weight, held_entries, written_entries, remaining_entries, weight_of}
 use Rattle.gixobj_directories.specs.TakenTrees.{child_leaf_trees}
 use Rattle.gixobj_open.specs.LeafTrees.{inside_of, leaf_trees}
 use Rattle.gixobj_open.specs.Nested.{IsLevel, Opened, base_side, bases_of, below, dirs_of, entries_side, opened, parts, under}
@@ -66,14 +66,14 @@ module _ (f : Frame) (es base : List EntryView) (cs : List Child) (view : opened
   remaining_at_first = ap (λ n. drop n (held_entries f.tree)) first ∙ held
 
   pub has_come_first : IsLevel es (parts cs) → AreNonEmpty (λ (p : Vec Child Global). p.items) f.remaining.more.now
-      → bases_of f.node.now [] ≡ Some f.base.now → f.own ≡ Prefix 0 → HasCome f [] [] 0
-  has_come_first level filled based own =
-      let none : own_entries f ≡ [] = ap (so_far f.base.now) own in record {
+      → bases_of f.node.now [] ≡ Some f.base.now → f.written_tree ≡ Prefix 0 → HasCome f [] [] 0
+  has_come_first level filled based written_tree =
+      let none : written_entries f ≡ [] = ap (so_far f.base.now) written_tree in record {
         in_step = record {
           root = dirs_of_nil f.node.now es (parts cs) view ∙ ap Some (sym held);
           based = based;
           formed = subst IsWellFormed (sym held) level.formed;
-          shares_base = subst (SharesBase f.base.now) (sym own) (omega arith);
+          shares_base = subst (SharesBase f.base.now) (sym written_tree) (omega arith);
           filled = filled;
           ahead = subst (λ r. Ahead f.node.now r (remaining_list f.remaining)) (sym remaining_at_first)
               (subst (Ahead f.node.now es) (sym children) (ahead_of_opened f.node.now es base cs view level));
@@ -129,7 +129,7 @@ module _ (f : Frame) (e : EntryView) (low : f.next < length (held_entries f.tree
 
   in_step_after : IsInStep f (remaining_entries f) → AreNonEmpty (λ (p : Vec Child Global). p.items) r.more.now → (n : ℕ) (o : WrittenTree)
       → SharesBase f.base.now o
-      → IsInStep (record { node = f.node; base = f.base; tree = f.tree; next = n; remaining = r; own = o }) (drop (f.next + 1) (held_entries f.tree))
+      → IsInStep (record { node = f.node; base = f.base; tree = f.tree; next = n; remaining = r; written_tree = o }) (drop (f.next + 1) (held_entries f.tree))
   in_step_after so filled n o shares = record {
     root = so.root;
     based = so.based;
@@ -139,21 +139,22 @@ module _ (f : Frame) (e : EntryView) (low : f.next < length (held_entries f.tree
     ahead = subst (Ahead f.node.now (drop (f.next + 1) (held_entries f.tree))) (sym following) (stepped_of_frame so).ahead;
   }
 
-  pub has_come_passed : AreNonEmpty (λ (p : Vec Child Global). p.items) r.more.now → (o : WrittenTree) (inner : List Pair) (kept : List EntryView) (k : ℕ)
-      → EmitsEntry (child_side entries_side next) (child_side base_side next) e inner kept k → so_far f.base.now o ≡ own_entries f ++ kept
+  pub has_come_visited : AreNonEmpty (λ (p : Vec Child Global). p.items) r.more.now → (o : WrittenTree) (inner : List Pair) (kept : List EntryView) (k : ℕ)
+      → EmitsEntry (child_side entries_side next) (child_side base_side next) e inner kept k → so_far f.base.now o ≡ written_entries f ++ kept
       → SharesBase f.base.now o → (ps : List Pair) (ts : List (List EntryView)) (count : ℕ) → HasCome f ps ts count
-      → HasCome (record { node = f.node; base = f.base; tree = f.tree; next = f.next + 1; remaining = r; own = o }) (ps ++ inner)
+      → HasCome (record { node = f.node; base = f.base; tree = f.tree; next = f.next + 1; remaining = r; written_tree = o }) (ps ++ inner)
       (ts ++ child_leaf_trees next) (count + k)
-  has_come_passed filled o inner kept k emits own shares ps ts count come = record {
+  has_come_visited filled o inner kept k emits written_tree shares ps ts count come = record {
     in_step = in_step_after come.in_step filled (f.next + 1) o shares;
     walked = walk_step (dirs_of f.node.now) (bases_of f.node.now) (child_side entries_side next) (child_side base_side next) (held_entries f.tree) f.next e
-        ps inner (own_entries f) kept count k low is (dirs_of_entry come.in_step) (bases_of_entry come.in_step) emits come.walked (so_far f.base.now o) own;
+        ps inner (written_entries f) kept count k low is (dirs_of_entry come.in_step) (bases_of_entry come.in_step) emits come.walked
+        (so_far f.base.now o) written_tree;
     trees = append_assoc ts (child_leaf_trees next) _ ∙ ap (λ us. ts ++ us) (trees_of_entry come.in_step) ∙ come.trees;
   }
 
   pub waits_for_child : AreNonEmpty (λ (p : Vec Child Global). p.items) r.more.now → (node : Opened) → IsBegun next node
       → (ps : List Pair) (ts : List (List EntryView)) (count : ℕ) → HasCome f ps ts count
-      → Waits (record { node = f.node; base = f.base; tree = f.tree; next = f.next; remaining = r; own = f.own }) node ps ts count
+      → Waits (record { node = f.node; base = f.base; tree = f.tree; next = f.next; remaining = r; written_tree = f.written_tree }) node ps ts count
   waits_for_child filled node begun ps ts count come = record {
     entry = e;
     low = low;
@@ -161,7 +162,7 @@ module _ (f : Frame) (e : EntryView) (low : f.next < length (held_entries f.tree
     dirs = dirs_of_entry come.in_step ∙ begun.dirs;
     bases = bases_of_entry come.in_step ∙ begun.bases;
     root = begun.root;
-    in_step = in_step_after come.in_step filled f.next f.own come.in_step.shares_base;
+    in_step = in_step_after come.in_step filled f.next f.written_tree come.in_step.shares_base;
     walked = come.walked;
     trees = ap (λ us. ts ++ us)
         (ap (λ us. us ++ leaf_trees (below (parts (remaining_list r)))) (sym begun.trees) ∙ trees_of_entry come.in_step) ∙ come.trees;
@@ -173,21 +174,22 @@ module _ (f : Frame) (e : EntryView) (low : f.next < length (held_entries f.tree
       let rest = walk_exists_of_open f.node.now (drop (f.next + 1) (held_entries f.tree)) in (
         rest.0,
         λ ps ts count come. (
-          own_entries f ++ (kept ++ rest.1),
+          written_entries f ++ (kept ++ rest.1),
           count + (k + rest.2),
           of_entries (dirs_of f.node.now) (bases_of f.node.now) (held_entries f.tree) _ _ _ come.in_step.root
               (walk_goes (dirs_of f.node.now) (bases_of f.node.now) (child_side entries_side next) (child_side base_side next) (held_entries f.tree) f.next e
-              ps inner (own_entries f) kept count k low is (dirs_of_entry come.in_step) (bases_of_entry come.in_step) emits come.walked
+              ps inner (written_entries f) kept count k low is (dirs_of_entry come.in_step) (bases_of_entry come.in_step) emits come.walked
               rest.0 rest.1 rest.2 rest.3),
         ),
       )
 
-  pub lighter_passed : (o : WrittenTree)
-      → frame_weight (record { node = f.node; base = f.base; tree = f.tree; next = f.next + 1; remaining = r; own = o }) + 1 ≤ frame_weight f
-  lighter_passed o = omega (arith, weight_of_entry)
+  pub lighter_visited : (o : WrittenTree)
+      → frame_weight (record { node = f.node; base = f.base; tree = f.tree; next = f.next + 1; remaining = r; written_tree = o }) + 1 ≤ frame_weight f
+  lighter_visited o = omega (arith, weight_of_entry)
 
   pub lighter_begun : (node : Opened) → IsBegun next node
-      → frame_weight (record { node = f.node; base = f.base; tree = f.tree; next = f.next; remaining = r; own = f.own }) + weight_of node ≤ frame_weight f
+      → frame_weight (record { node = f.node; base = f.base; tree = f.tree; next = f.next; remaining = r; written_tree = f.written_tree }) + weight_of node ≤
+      frame_weight f
   lighter_begun node begun = omega (
     arith,
     weight_of_entry,
@@ -197,17 +199,18 @@ module _ (f : Frame) (e : EntryView) (low : f.next < length (held_entries f.tree
 
 -- a frame without remaining entries
 module _ (f : Frame) (none : remaining_entries f ≡ []) (ps : List Pair) (ts : List (List EntryView)) (count : ℕ) (come : HasCome f ps ts count) where
-  walks_of_ended : EmitsEntries (dirs_of f.node.now) (bases_of f.node.now) (held_entries f.tree) ps (own_entries f) count
+  walks_of_ended : EmitsEntries (dirs_of f.node.now) (bases_of f.node.now) (held_entries f.tree) ps (written_entries f) count
   walks_of_ended =
       let walk = come.walked [] [] 0
       (subst (λ es. EmitsEntries (dirs_of f.node.now) (bases_of f.node.now) es [] [] 0) (sym none) (end (dirs_of f.node.now) (bases_of f.node.now))) in
       walks_of_count (count + 0) count (omega arith) (rw (append-nil, append-nil) at walk)
 
-  pub emits_below_of_ended : EmitsBelow (dirs_of f.node.now) (bases_of f.node.now) ps (own_entries f) count
-  emits_below_of_ended = of_entries (dirs_of f.node.now) (bases_of f.node.now) (held_entries f.tree) ps (own_entries f) count come.in_step.root walks_of_ended
+  pub emits_below_of_ended : EmitsBelow (dirs_of f.node.now) (bases_of f.node.now) ps (written_entries f) count
+  emits_below_of_ended = of_entries (dirs_of f.node.now) (bases_of f.node.now) (held_entries f.tree) ps
+      (written_entries f) count come.in_step.root walks_of_ended
 
-  pub storable_of_ended : IsStorable (own_entries f)
-  storable_of_ended = written_is_storable (dirs_of f.node.now) (bases_of f.node.now) (held_entries f.tree) ps (own_entries f) count walks_of_ended
+  pub storable_of_ended : IsStorable (written_entries f)
+  storable_of_ended = written_is_storable (dirs_of f.node.now) (bases_of f.node.now) (held_entries f.tree) ps (written_entries f) count walks_of_ended
       come.in_step.formed
 
   pub trees_of_ended : ts ≡ leaf_trees (inside_of f.node.now)
@@ -216,7 +219,7 @@ module _ (f : Frame) (none : remaining_entries f ≡ []) (ps : List Pair) (ts : 
 
 -- the frame above goes on after a directory that ended
 module _ (old done : Frame) (e : EntryView) (is : e ≡ get_or (held_entries old.tree) old.next e) (none : remaining_entries done ≡ [])
-    (more : List Pair) (kept : List EntryView) (k : ℕ) (emits : EmitsOwn done.base.now e (own_entries done) more kept k) where
+    (more : List Pair) (kept : List EntryView) (k : ℕ) (emits : EmitsWritten done.base.now e (written_entries done) more kept k) where
   emits_entry_of_ended : (qs : List Pair) (us : List (List EntryView)) (n : ℕ) → HasCome done qs us n
       → EmitsEntry (dirs_of done.node.now) (bases_of done.node.now) e (qs ++ more) kept (n + k)
   emits_entry_of_ended qs us n come = emits (dirs_of done.node.now) (bases_of done.node.now) qs n come.in_step.based
@@ -225,9 +228,10 @@ module _ (old done : Frame) (e : EntryView) (is : e ≡ get_or (held_entries old
   entry_of_waits : (ps : List Pair) (ts : List (List EntryView)) (count : ℕ) (waits : Waits old done.node.now ps ts count) → waits.entry ≡ e
   entry_of_waits ps ts count waits = entry_at_unique (held_entries old.tree) old.next waits.entry e waits.low waits.is is
 
-  pub has_resumed : (o : WrittenTree) → so_far old.base.now o ≡ own_entries old ++ kept → SharesBase old.base.now o
-      → HasResumed old done (record { node = old.node; base = old.base; tree = old.tree; next = old.next + 1; remaining = old.remaining; own = o }) more k
-  has_resumed o own shares = λ ps qs ts us count n waits come. record {
+  pub has_resumed : (o : WrittenTree) → so_far old.base.now o ≡ written_entries old ++ kept → SharesBase old.base.now o
+      → HasResumed old done (record { node = old.node; base = old.base; tree = old.tree; next = old.next + 1; remaining = old.remaining; written_tree = o })
+      more k
+  has_resumed o written_tree shares = λ ps qs ts us count n waits come. record {
     in_step = record {
       root = waits.in_step.root;
       based = waits.in_step.based;
@@ -237,26 +241,27 @@ module _ (old done : Frame) (e : EntryView) (is : e ≡ get_or (held_entries old
       ahead = waits.in_step.ahead;
     };
     walked = walk_step (dirs_of old.node.now) (bases_of old.node.now) (dirs_of done.node.now) (bases_of done.node.now) (held_entries old.tree) old.next e
-        ps (qs ++ more) (own_entries old) kept count (n + k) waits.low is
+        ps (qs ++ more) (written_entries old) kept count (n + k) waits.low is
         (ap (λ (x : EntryView). in_dir x.name (dirs_of old.node.now)) (sym (entry_of_waits ps ts count waits)) ∙ waits.dirs)
         (ap (λ (x : EntryView). in_dir x.name (bases_of old.node.now)) (sym (entry_of_waits ps ts count waits)) ∙ waits.bases)
-        (emits_entry_of_ended qs us n come) waits.walked (so_far old.base.now o) own;
+        (emits_entry_of_ended qs us n come) waits.walked (so_far old.base.now o) written_tree;
     trees = append_assoc ts us _ ∙ ap (λ x. ts ++ (x ++ leaf_trees (below (parts (remaining_list old.remaining))))) (trees_of_ended done none qs us n come)
         ∙ waits.trees;
   }
 
-  pub emits_after_own : (rest : List Pair) × EmitsAfter old done (more ++ rest)
-  emits_after_own =
+  pub emits_after_written : (rest : List Pair) × EmitsAfter old done (more ++ rest)
+  emits_after_written =
       let rest = walk_exists_of_open old.node.now (drop (old.next + 1) (held_entries old.tree)) in (
         rest.0,
         λ ps qs ts us count n waits come. (
-          own_entries old ++ (kept ++ rest.1),
+          written_entries old ++ (kept ++ rest.1),
           count + ((n + k) + rest.2),
           of_entries (dirs_of old.node.now) (bases_of old.node.now) (held_entries old.tree) _ _ _ waits.in_step.root
-              (subst (λ x. EmitsEntries (dirs_of old.node.now) (bases_of old.node.now) (held_entries old.tree) (ps ++ x) (own_entries old ++ (kept ++ rest.1))
+              (subst (λ x. EmitsEntries (dirs_of old.node.now) (bases_of old.node.now) (held_entries old.tree) (ps ++ x)
+              (written_entries old ++ (kept ++ rest.1))
               (count + ((n + k) + rest.2))) (append_assoc qs more rest.0)
               (walk_goes (dirs_of old.node.now) (bases_of old.node.now) (dirs_of done.node.now) (bases_of done.node.now) (held_entries old.tree) old.next e
-              ps (qs ++ more) (own_entries old) kept count (n + k) waits.low is
+              ps (qs ++ more) (written_entries old) kept count (n + k) waits.low is
               (ap (λ (x : EntryView). in_dir x.name (dirs_of old.node.now)) (sym (entry_of_waits ps ts count waits)) ∙ waits.dirs)
               (ap (λ (x : EntryView). in_dir x.name (bases_of old.node.now)) (sym (entry_of_waits ps ts count waits)) ∙ waits.bases)
               (emits_entry_of_ended qs us n come) waits.walked rest.0 rest.1 rest.2 rest.3)),
@@ -265,5 +270,5 @@ module _ (old done : Frame) (e : EntryView) (is : e ≡ get_or (held_entries old
 
 -- the frame above is lighter by an entry
 pub lighter_resumed : (f : Frame) (o : WrittenTree) → f.next < length (held_entries f.tree)
-    → frame_weight (record { node = f.node; base = f.base; tree = f.tree; next = f.next + 1; remaining = f.remaining; own = o }) < frame_weight f
+    → frame_weight (record { node = f.node; base = f.base; tree = f.tree; next = f.next + 1; remaining = f.remaining; written_tree = o }) < frame_weight f
 lighter_resumed f o low = omega (arith, length-drop (f.next + 1) (held_entries f.tree), length-drop f.next (held_entries f.tree))

@@ -28,7 +28,7 @@ each_later_or_not R either (x ∷ xs) =
 
 byte_free_or_not : (byte : ℕ) (bytes : List ℕ) → OrNot (IsByteFree byte bytes)
 byte_free_or_not byte bytes =
-    ⊎_elim (λ cut. inr (λ free. no_split_of_byte_free byte cut.0 cut.1 (subst (IsByteFree byte) cut.2.joined free))) (λ free. inl free)
+    ⊎_elim (λ split. inr (λ free. no_split_of_byte_free byte split.0 split.1 (subst (IsByteFree byte) split.2.joined free))) (λ free. inl free)
     (splits_at_or_byte_free byte bytes)
 
 entry_name_or_not : (name : List ℕ) → OrNot (IsEntryName name)

@@ -32,36 +32,38 @@ use Rattle.gixobj_open.proofs.Levels.{tied, tied_cons}
 use Rattle.gixobj_files.proofs.SameTrees.{entries_eq_or_ne}
 
 -- a walk with an equal count
-pub walks_of_count : {dirs bases : Dirs} {entries : List EntryView} {below : List Pair} {own : List EntryView} (m n : ℕ) → m ≡ n
-    → EmitsEntries dirs bases entries below own m
-    → EmitsEntries dirs bases entries below own n
-walks_of_count {dirs} {bases} {entries} {below} {own} m n is walk = subst (EmitsEntries dirs bases entries below own) is walk
+pub walks_of_count : {dirs bases : Dirs} {entries : List EntryView} {below : List Pair} {written_tree : List EntryView} (m n : ℕ) → m ≡ n
+    → EmitsEntries dirs bases entries below written_tree m
+    → EmitsEntries dirs bases entries below written_tree n
+walks_of_count {dirs} {bases} {entries} {below} {written_tree} m n is walk = subst (EmitsEntries dirs bases entries below written_tree) is walk
 
 -- increments add up
 pub raised_append : (old between new first then : ℕ) → between ≡ raised old first → new ≡ raised between then → new ≡ raised old (first + then)
 raised_append old between new first then before after = after ∙ ap (λ n. raised n then) before ∙ raised_raised old first then
 
 pub emits_entry_unopened : (inside based : Dirs) (e : EntryView) → inside [] ≡ None → EmitsEntry inside based e [] (entry_unless_null e e.id) 0
-emits_entry_unopened inside based e none = λ dirs bases is b entries below own more walk. walks_of_count more (0 + more) (omega arith)
-    (unopened dirs bases e entries below own more (ap (λ (d : Dirs). d []) is ∙ none) walk)
+emits_entry_unopened inside based e none = λ dirs bases is b entries below written_tree more walk. walks_of_count more (0 + more) (omega arith)
+    (unopened dirs bases e entries below written_tree more (ap (λ (d : Dirs). d []) is ∙ none) walk)
 
 -- equal open directories with equal bases emit equal pairs
-pub emits_below_of_both : (dirs bases dirs' bases' : Dirs) → dirs ≡ dirs' → bases ≡ bases' → (ps : List Pair) (own : List EntryView) (n : ℕ)
-    → EmitsBelow dirs bases ps own n → EmitsBelow dirs' bases' ps own n
-emits_below_of_both dirs bases dirs' bases' is b ps own n found = subst (λ (d : Dirs). EmitsBelow d bases' ps own n) is
-    (subst (λ (d : Dirs). EmitsBelow dirs d ps own n) b found)
+pub emits_below_of_both : (dirs bases dirs' bases' : Dirs) → dirs ≡ dirs' → bases ≡ bases' → (ps : List Pair) (written_tree : List EntryView) (n : ℕ)
+    → EmitsBelow dirs bases ps written_tree n → EmitsBelow dirs' bases' ps written_tree n
+emits_below_of_both dirs bases dirs' bases' is b ps written_tree n found = subst (λ (d : Dirs). EmitsBelow d bases' ps written_tree n) is
+    (subst (λ (d : Dirs). EmitsBelow dirs d ps written_tree n) b found)
 
 -- what the directory of a name emits is what its open directories emit
 emits_below_congruent : (inside based : Dirs) (dirs bases : Dirs) (name : List ℕ) → in_dir name dirs ≡ inside → in_dir name bases ≡ based
-    → (inner : List Pair) (own : List EntryView) (saved : ℕ) → EmitsBelow inside based inner own saved
-    → EmitsBelow (in_dir name dirs) (in_dir name bases) inner own saved
-emits_below_congruent inside based dirs bases name is b inner own saved found = subst (λ (d : Dirs). EmitsBelow d (in_dir name bases) inner own saved) (sym is)
-    (subst (λ (d : Dirs). EmitsBelow inside d inner own saved) (sym b) found)
+    → (inner : List Pair) (written_tree : List EntryView) (saved : ℕ) → EmitsBelow inside based inner written_tree saved
+    → EmitsBelow (in_dir name dirs) (in_dir name bases) inner written_tree saved
+emits_below_congruent inside based dirs bases name is b inner written_tree saved found =
+    subst (λ (d : Dirs). EmitsBelow d (in_dir name bases) inner written_tree saved) (sym is)
+    (subst (λ (d : Dirs). EmitsBelow inside d inner written_tree saved) (sym b) found)
 
-pub emits_entry_emptied : (inside based : Dirs) (e : EntryView) (inner : List Pair) (own : List EntryView) (saved : ℕ) → own ≡ []
-    → EmitsBelow inside based inner own saved → EmitsEntry inside based e inner [] saved
-emits_entry_emptied inside based e inner [] saved is found = λ dirs bases same b entries below own more walk. left_out_if_empty dirs bases e entries inner
-    below own
+pub emits_entry_emptied : (inside based : Dirs) (e : EntryView) (inner : List Pair) (written_tree : List EntryView) (saved : ℕ) → written_tree ≡ []
+    → EmitsBelow inside based inner written_tree saved → EmitsEntry inside based e inner [] saved
+emits_entry_emptied inside based e inner [] saved is found = λ dirs bases same b entries below written_tree more walk. left_out_if_empty dirs bases e entries
+    inner
+    below written_tree
     saved more
     (emits_below_congruent inside based dirs bases e.name same b inner [] saved found) walk
 emits_entry_emptied inside based e inner (x ∷ xs) saved is found = absurd (cc is)
@@ -70,8 +72,8 @@ pub emits_entry_written : (inside based : Dirs) (e : EntryView) (inner : List Pa
     → based [] ≢ Some tree → EmitsBelow inside based inner tree saved → EmitsEntry inside based e (inner ++ (id, tree) ∷ []) (entry_unless_null e id) saved
 emits_entry_written inside based e inner [] saved id filled changed found = absurd (filled refl)
 emits_entry_written inside based e inner (first ∷ rest) saved id filled changed found =
-    λ dirs bases same b entries below own more walk. rw append_assoc
-    (written dirs bases e first entries rest inner below own saved more id
+    λ dirs bases same b entries below written_tree more walk. rw append_assoc
+    (written dirs bases e first entries rest inner below written_tree saved more id
     (emits_below_congruent inside based dirs bases e.name same b inner (first ∷ rest) saved found)
     (λ is. changed (sym (ap (λ (d : Dirs). d []) b) ∙ is)) walk)
 
@@ -79,7 +81,7 @@ pub emits_entry_unchanged : (inside based : Dirs) (e : EntryView) (inner : List 
     → EmitsBelow inside based inner tree saved → EmitsEntry inside based e inner (entry_unless_null e e.id) (saved + 1)
 emits_entry_unchanged inside based e inner [] saved filled is found = absurd (filled refl)
 emits_entry_unchanged inside based e inner (first ∷ rest) saved filled is found =
-    λ dirs bases same b entries below own more walk. unchanged dirs bases e first entries rest inner below own saved more
+    λ dirs bases same b entries below written_tree more walk. unchanged dirs bases e first entries rest inner below written_tree saved more
     (emits_below_congruent inside based dirs bases e.name same b inner (first ∷ rest) saved found) (ap (λ (d : Dirs). d []) b ∙ is) walk
 
 -- the base is a tree, or it isn't
@@ -88,8 +90,8 @@ some_eq_or_ne None tree = inr (λ is. cc is)
 some_eq_or_ne (Some base) tree = ⊎_elim (λ same. inl (ap Some same)) (λ other. inr (λ is. other (cc is))) (entries_eq_or_ne base tree)
 
 -- the entry of a directory emits what the directory emits, and then the directory if it is changed
-pub emits_entry_open : (inside based : Dirs) (e : EntryView) (inner : List Pair) (own : List EntryView) (saved : ℕ)
-    → EmitsBelow inside based inner own saved
+pub emits_entry_open : (inside based : Dirs) (e : EntryView) (inner : List Pair) (written_tree : List EntryView) (saved : ℕ)
+    → EmitsBelow inside based inner written_tree saved
     → (more : List Pair) × (kept : List EntryView) × (count : ℕ) × EmitsEntry inside based e (inner ++ more) kept count
 emits_entry_open inside based e inner [] saved found = ([], [], saved, rw append-nil (emits_entry_emptied inside based e inner [] saved refl found))
 emits_entry_open inside based e inner (first ∷ rest) saved found =
@@ -175,15 +177,15 @@ stopped_at_call {F} {E} gave rejected Q old new ps rest calls goes error is = su
 
 -- directories whose paths are of bounded length emit some list
 pub walk_exists : (n : ℕ) (dirs bases : Dirs) → ((path : Path) → n ≤ length path → dirs path ≡ None) → (entries : List EntryView) → (below : List Pair)
-    × (own : List EntryView) × (saved : ℕ) × EmitsEntries dirs bases entries below own saved
+    × (written_tree : List EntryView) × (saved : ℕ) × EmitsEntries dirs bases entries below written_tree saved
 walk_exists n dirs bases bound [] = ([], [], 0, end dirs bases)
 walk_exists zero dirs bases bound (e ∷ entries) =
     let rest = walk_exists zero dirs bases bound entries in
     (rest.0, entry_unless_null e e.id ++ rest.1, rest.2, unopened dirs bases e entries rest.0 rest.1 rest.2 (bound (e.name ∷ []) (omega arith)) rest.3)
 walk_exists (suc n) dirs bases bound (e ∷ entries) =
     let rest = walk_exists (suc n) dirs bases bound entries in
-    elim (dirs (e.name ∷ [])) as (λ o. dirs (e.name ∷ []) ≡ o → (below : List Pair) × (own : List EntryView) × (saved : ℕ)
-    × EmitsEntries dirs bases (e ∷ entries) below own saved) [
+    elim (dirs (e.name ∷ [])) as (λ o. dirs (e.name ∷ []) ≡ o → (below : List Pair) × (written_tree : List EntryView) × (saved : ℕ)
+    × EmitsEntries dirs bases (e ∷ entries) below written_tree saved) [
       | None ↦ λ is. (rest.0, entry_unless_null e e.id ++ rest.1, rest.2, unopened dirs bases e entries rest.0 rest.1 rest.2 is rest.3)
       | Some es ↦ λ is. let inner = walk_exists n (in_dir e.name dirs) (in_dir e.name bases) (λ path long. bound (e.name ∷ path) (omega (arith, long)))
           es in
@@ -218,8 +220,8 @@ dirs_none_of_long_path (d ∷ ds) path h =
       | false ↦ λ is. dirs_none_of_long_path ds path (omega (arith, h))
     ] refl
 
-pub walk_exists_of_open : (ds : Opened) (entries : List EntryView) → (below : List Pair) × (own : List EntryView) × (saved : ℕ)
-    × EmitsEntries (dirs_of ds) (bases_of ds) entries below own saved
+pub walk_exists_of_open : (ds : Opened) (entries : List EntryView) → (below : List Pair) × (written_tree : List EntryView) × (saved : ℕ)
+    × EmitsEntries (dirs_of ds) (bases_of ds) entries below written_tree saved
 walk_exists_of_open ds entries = walk_exists (longest ds) (dirs_of ds) (bases_of ds) (dirs_none_of_long_path ds) entries
 
 -- a property of an entry and of the others holds of the list with the entry, if its id isn't null
@@ -230,16 +232,16 @@ all_entry_unless_null P e id os h k = elim (is_null id) as (λ b. AllByRecursion
 
 -- a written tree has names and modes of the entries, in the same order
 all_emitted : (P : EntryView → Type 0) → ((e : EntryView) (id : ObjectId) → P e → P (record { mode = e.mode; name = e.name; id = id }))
-    → (dirs bases : Dirs) (entries : List EntryView) (below : List Pair) (own : List EntryView) (n : ℕ)
-    → EmitsEntries dirs bases entries below own n → AllByRecursion P entries → AllByRecursion P own
-all_emitted P same dirs bases entries below own n (end dirs' b') h = tt
-all_emitted P same dirs bases entries below own n (unopened dirs' b' e es ps os m none walk) h =
+    → (dirs bases : Dirs) (entries : List EntryView) (below : List Pair) (written_tree : List EntryView) (n : ℕ)
+    → EmitsEntries dirs bases entries below written_tree n → AllByRecursion P entries → AllByRecursion P written_tree
+all_emitted P same dirs bases entries below written_tree n (end dirs' b') h = tt
+all_emitted P same dirs bases entries below written_tree n (unopened dirs' b' e es ps os m none walk) h =
     all_entry_unless_null P e e.id os (same e e.id h.0) (all_emitted P same dirs' b' es ps os m walk h.1)
-all_emitted P same dirs bases entries below own n (left_out_if_empty dirs' b' e es inner ps os i m found walk) h =
+all_emitted P same dirs bases entries below written_tree n (left_out_if_empty dirs' b' e es inner ps os i m found walk) h =
     all_emitted P same dirs' b' es ps os m walk h.1
-all_emitted P same dirs bases entries below own n (written dirs' b' e first es rest inner ps os i m id found changed walk) h =
+all_emitted P same dirs bases entries below written_tree n (written dirs' b' e first es rest inner ps os i m id found changed walk) h =
     all_entry_unless_null P e id os (same e id h.0) (all_emitted P same dirs' b' es ps os m walk h.1)
-all_emitted P same dirs bases entries below own n (unchanged dirs' b' e first es rest inner ps os i m found same_base walk) h =
+all_emitted P same dirs bases entries below written_tree n (unchanged dirs' b' e first es rest inner ps os i m found same_base walk) h =
     all_entry_unless_null P e e.id os (same e e.id h.0) (all_emitted P same dirs' b' es ps os m walk h.1)
 
 each_later_entry_unless_null : (R : EntryView → EntryView → Type 0) (e : EntryView) (id : ObjectId) (os : List EntryView)
@@ -256,16 +258,16 @@ module _ (R : EntryView → EntryView → Type 0) (remaining : (e y : EntryView)
       (λ y r. remaining e y id r) os
       (all_emitted (R e) (λ y other r. right e y other r) dirs bases es ps os n walk h)
 
-  walk_later : (dirs bases : Dirs) (entries : List EntryView) (below : List Pair) (own : List EntryView) (n : ℕ)
-      → EmitsEntries dirs bases entries below own n
-      → EachLater R entries → EachLater R own
-  walk_later dirs bases entries below own n (end dirs' b') h = tt
-  walk_later dirs bases entries below own n (unopened dirs' b' e es ps os m none walk) h =
+  walk_later : (dirs bases : Dirs) (entries : List EntryView) (below : List Pair) (written_tree : List EntryView) (n : ℕ)
+      → EmitsEntries dirs bases entries below written_tree n
+      → EachLater R entries → EachLater R written_tree
+  walk_later dirs bases entries below written_tree n (end dirs' b') h = tt
+  walk_later dirs bases entries below written_tree n (unopened dirs' b' e es ps os m none walk) h =
       each_later_entry_unless_null R e e.id os (later_kept_as dirs' b' e e.id es ps os m walk h.0) (walk_later dirs' b' es ps os m walk h.1)
-  walk_later dirs bases entries below own n (left_out_if_empty dirs' b' e es inner ps os i m found walk) h = walk_later dirs' b' es ps os m walk h.1
-  walk_later dirs bases entries below own n (written dirs' b' e first es rest inner ps os i m id found changed walk) h =
+  walk_later dirs bases entries below written_tree n (left_out_if_empty dirs' b' e es inner ps os i m found walk) h = walk_later dirs' b' es ps os m walk h.1
+  walk_later dirs bases entries below written_tree n (written dirs' b' e first es rest inner ps os i m id found changed walk) h =
       each_later_entry_unless_null R e id os (later_kept_as dirs' b' e id es ps os m walk h.0) (walk_later dirs' b' es ps os m walk h.1)
-  walk_later dirs bases entries below own n (unchanged dirs' b' e first es rest inner ps os i m found same_base walk) h =
+  walk_later dirs bases entries below written_tree n (unchanged dirs' b' e first es rest inner ps os i m found same_base walk) h =
       each_later_entry_unless_null R e e.id os (later_kept_as dirs' b' e e.id es ps os m walk h.0) (walk_later dirs' b' es ps os m walk h.1)
 
 all_not_null_entry_unless_null : (e : EntryView) (id : ObjectId) (os : List EntryView) → AllByRecursion (λ x. IsFalse (is_null x.id)) os
@@ -274,28 +276,29 @@ all_not_null_entry_unless_null e id os k = elim (is_null id) as
     (λ b. is_null id ≡ b → AllByRecursion (λ x. IsFalse (is_null x.id)) (cond b [] ((record { mode = e.mode; name = e.name; id = id }) ∷ []) ++ os))
     [ true ↦ λ is. k | false ↦ λ is. (is, k) ] refl
 
-all_emitted_not_null : (dirs bases : Dirs) (entries : List EntryView) (below : List Pair) (own : List EntryView) (n : ℕ)
-    → EmitsEntries dirs bases entries below own n
-    → AllByRecursion (λ x. IsFalse (is_null x.id)) own
-all_emitted_not_null dirs bases entries below own n (end dirs' b') = tt
-all_emitted_not_null dirs bases entries below own n (unopened dirs' b' e es ps os m none walk) =
+all_emitted_not_null : (dirs bases : Dirs) (entries : List EntryView) (below : List Pair) (written_tree : List EntryView) (n : ℕ)
+    → EmitsEntries dirs bases entries below written_tree n
+    → AllByRecursion (λ x. IsFalse (is_null x.id)) written_tree
+all_emitted_not_null dirs bases entries below written_tree n (end dirs' b') = tt
+all_emitted_not_null dirs bases entries below written_tree n (unopened dirs' b' e es ps os m none walk) =
     all_not_null_entry_unless_null e e.id os (all_emitted_not_null dirs' b' es ps os m walk)
-all_emitted_not_null dirs bases entries below own n (left_out_if_empty dirs' b' e es inner ps os i m found walk) = all_emitted_not_null dirs' b' es ps os m walk
-all_emitted_not_null dirs bases entries below own n (written dirs' b' e first es rest inner ps os i m id found changed walk) =
+all_emitted_not_null dirs bases entries below written_tree n (left_out_if_empty dirs' b' e es inner ps os i m found walk) =
+    all_emitted_not_null dirs' b' es ps os m walk
+all_emitted_not_null dirs bases entries below written_tree n (written dirs' b' e first es rest inner ps os i m id found changed walk) =
     all_not_null_entry_unless_null e id os (all_emitted_not_null dirs' b' es ps os m walk)
-all_emitted_not_null dirs bases entries below own n (unchanged dirs' b' e first es rest inner ps os i m found same_base walk) =
+all_emitted_not_null dirs bases entries below written_tree n (unchanged dirs' b' e first es rest inner ps os i m found same_base walk) =
     all_not_null_entry_unless_null e e.id os (all_emitted_not_null dirs' b' es ps os m walk)
 
-pub written_is_storable : (dirs bases : Dirs) (entries : List EntryView) (below : List Pair) (own : List EntryView) (n : ℕ)
-    → EmitsEntries dirs bases entries below own n
-    → IsWellFormed entries → IsStorable own
-written_is_storable dirs bases entries below own n walk formed = record {
+pub written_is_storable : (dirs bases : Dirs) (entries : List EntryView) (below : List Pair) (written_tree : List EntryView) (n : ℕ)
+    → EmitsEntries dirs bases entries below written_tree n
+    → IsWellFormed entries → IsStorable written_tree
+written_is_storable dirs bases entries below written_tree n walk formed = record {
   well_formed = record {
-    names = all_emitted (λ e. IsEntryName e.name) (λ e id h. h) dirs bases entries below own n walk formed.names;
-    apart = walk_later (λ x y. x.name ≢ y.name) (λ e y id h. h) (λ x e id h. h) dirs bases entries below own n walk formed.apart;
-    ascending = walk_later ComesBefore (λ e y id h. h) (λ x e id h. h) dirs bases entries below own n walk formed.ascending;
+    names = all_emitted (λ e. IsEntryName e.name) (λ e id h. h) dirs bases entries below written_tree n walk formed.names;
+    apart = walk_later (λ x y. x.name ≢ y.name) (λ e y id h. h) (λ x e id h. h) dirs bases entries below written_tree n walk formed.apart;
+    ascending = walk_later ComesBefore (λ e y id h. h) (λ x e id h. h) dirs bases entries below written_tree n walk formed.ascending;
   };
-  no_nulls = All-from_recursion (λ (e : EntryView). IsFalse (is_null e.id)) own (all_emitted_not_null dirs bases entries below own n walk);
+  no_nulls = All-from_recursion (λ (e : EntryView). IsFalse (is_null e.id)) written_tree (all_emitted_not_null dirs bases entries below written_tree n walk);
 }
 
 -- an error that `?` returns
@@ -304,33 +307,36 @@ if_err_weaken (Ok x) P Q h f = absurd h
 if_err_weaken (Err error) P Q h f = f error h
 
 -- what is open in a child
-pub side_of_open_child : (side : Level → List EntryView) (passed : Option (Bor Child)) (child : Bor Child) → passed ≡ Some child
-    → at_side side child.now.open ≡ child_side side (option_copied passed)
-side_of_open_child side passed child is = sym (ap (λ (o : Option (Bor Child)). child_side side (option_copied o)) is)
+pub side_of_open_child : (side : Level → List EntryView) (child_if_any : Option (Bor Child)) (child : Bor Child) → child_if_any ≡ Some child
+    → at_side side child.now.open ≡ child_side side (option_copied child_if_any)
+side_of_open_child side child_if_any child is = sym (ap (λ (o : Option (Bor Child)). child_side side (option_copied o)) is)
 
 -- a walk with one entry more
 module _ (dirs bases inside based : Dirs) (items : List EntryView) (i : ℕ) (e : EntryView) (ps inner : List Pair) (acc kept : List EntryView)
     (count saved : ℕ)
     (low : i < length items) (is : e ≡ get_or items i e)
     (same : in_dir e.name dirs ≡ inside) (base : in_dir e.name bases ≡ based) (seen : EmitsEntry inside based e inner kept saved)
-    (so_far : (qs : List Pair) (own : List EntryView) (n : ℕ) → EmitsEntries dirs bases (drop i items) qs own n
-    → EmitsEntries dirs bases items (ps ++ qs) (acc ++ own)
+    (so_far : (qs : List Pair) (written_tree : List EntryView) (n : ℕ) → EmitsEntries dirs bases (drop i items) qs written_tree n
+    → EmitsEntries dirs bases items (ps ++ qs) (acc ++ written_tree)
     (count + n)) where
-  pub walk_goes : (qs : List Pair) (own : List EntryView) (n : ℕ) → EmitsEntries dirs bases (drop (i + 1) items) qs own n
-      → EmitsEntries dirs bases items (ps ++ (inner ++ qs)) (acc ++ (kept ++ own)) (count + (saved + n))
-  walk_goes qs own n walk =
+  pub walk_goes : (qs : List Pair) (written_tree : List EntryView) (n : ℕ) → EmitsEntries dirs bases (drop (i + 1) items) qs written_tree n
+      → EmitsEntries dirs bases items (ps ++ (inner ++ qs)) (acc ++ (kept ++ written_tree)) (count + (saved + n))
+  walk_goes qs written_tree n walk =
       let here : drop i items ≡ e ∷ drop (i + 1) items = rw add-one (drop-cons items i e low ∙ ap (λ x. x ∷ drop (suc i) items) (sym is)) in
-      so_far (inner ++ qs) (kept ++ own) (saved + n) (subst (λ es. EmitsEntries dirs bases es (inner ++ qs) (kept ++ own) (saved + n)) (sym here)
-      (seen dirs bases same base (drop (i + 1) items) qs own n walk))
+      so_far (inner ++ qs) (kept ++ written_tree) (saved + n) (subst (λ es. EmitsEntries dirs bases es (inner ++ qs) (kept ++ written_tree) (saved + n))
+      (sym here)
+      (seen dirs bases same base (drop (i + 1) items) qs written_tree n walk))
 
-  pub walk_step : (next : List EntryView) → next ≡ acc ++ kept → (qs : List Pair) (own : List EntryView) (n : ℕ)
-      → EmitsEntries dirs bases (drop (i + 1) items) qs own n → EmitsEntries dirs bases items ((ps ++ inner) ++ qs) (next ++ own) (count + saved + n)
-  walk_step next is_next qs own n walk = walks_of_count (count + (saved + n)) (count + saved + n) (omega arith)
-      (rw (is_next, append_assoc, append_assoc) (walk_goes qs own n walk))
+  pub walk_step : (next : List EntryView) → next ≡ acc ++ kept → (qs : List Pair) (written_tree : List EntryView) (n : ℕ)
+      → EmitsEntries dirs bases (drop (i + 1) items) qs written_tree n → EmitsEntries dirs bases items ((ps ++ inner) ++ qs) (next ++ written_tree)
+      (count + saved + n)
+  walk_step next is_next qs written_tree n walk = walks_of_count (count + (saved + n)) (count + saved + n) (omega arith)
+      (rw (is_next, append_assoc, append_assoc) (walk_goes qs written_tree n walk))
 
 -- the end of a walk
 pub walks_at_end : (dirs bases : Dirs) (items : List EntryView) (i : ℕ) (ps : List Pair) (acc : List EntryView) (count : ℕ) → length items ≤ i
-    → ((qs : List Pair) (own : List EntryView) (n : ℕ) → EmitsEntries dirs bases (drop i items) qs own n → EmitsEntries dirs bases items (ps ++ qs) (acc ++ own)
+    → ((qs : List Pair) (written_tree : List EntryView) (n : ℕ) → EmitsEntries dirs bases (drop i items) qs written_tree n
+    → EmitsEntries dirs bases items (ps ++ qs) (acc ++ written_tree)
     (count + n))
     → EmitsEntries dirs bases items ps acc count
 walks_at_end dirs bases items i ps acc count high so_far =
@@ -339,10 +345,13 @@ walks_at_end dirs bases items i ps acc count high so_far =
     walks_of_count (count + 0) count (omega arith) (rw (append-nil, append-nil) at walk)
 
 -- what is emitted below a directory is a prefix of what the directory emits, with itself
-pub emits_some_append : (dirs bases : Dirs) (below : List Pair) (own : List EntryView) (saved : ℕ) → EmitsBelow dirs bases below own saved
+pub emits_some_append : (dirs bases : Dirs) (below : List Pair) (written_tree : List EntryView) (saved : ℕ) → EmitsBelow dirs bases below written_tree saved
     → (more : List Pair)
     × EmitsSome dirs bases (below ++ more)
-emits_some_append dirs bases below own saved found = ((Sha1 [], own) ∷ [], (raised 0 saved, (below, Sha1 [], own, (saved, found, refl), refl)))
+emits_some_append dirs bases below written_tree saved found = (
+  (Sha1 [], written_tree) ∷ [],
+  (raised 0 saved, (below, Sha1 [], written_tree, (saved, found, refl), refl)),
+)
 
 -- a write that stops does so in equal open directories
 pub stopped_of_same_dirs : {F E : Type 0} (gave : F → Pair → F → Type 0) (rejected : F → List EntryView → E → F → Type 0) (dirs dirs' bases bases' : Dirs)

@@ -7,7 +7,7 @@ pub mod Moves
 pub mod NamedTrees
 pub mod OpeningDescents
 pub mod OpeningSteps
-pub mod OwnTrees
+pub mod WrittenEntries
 pub mod StorablePairs
 pub mod TakenTrees
 pub mod WaitingFrames

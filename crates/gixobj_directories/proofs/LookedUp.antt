@@ -32,24 +32,24 @@ nil_begins_with_no_entry kind e rest (content, joined, is) =
     )
 
 -- an entry that comes after others is one of those that the iterator yields
-contains_entry_after_consumed : (kind : Kind) (content here rest : List ℕ) (entries passed : List EntryView) (e : EntryView)
+contains_entry_after_consumed : (kind : Kind) (content here rest : List ℕ) (entries consumed : List EntryView) (e : EntryView)
     → YieldsEntries kind content entries complete
-    → runs.Passes (EntryStep kind) tt content passed tt here → BeginsWithEntry kind here e rest → ContainsEntry entries e
+    → runs.BeginsWithPieces (EntryStep kind) tt content consumed tt here → BeginsWithEntry kind here e rest → ContainsEntry entries e
 contains_entry_after_consumed kind content here rest entries [] e (yields_end _) (_, same) has =
     absurd (nil_begins_with_no_entry kind e rest (subst (λ (at : List ℕ). BeginsWithEntry kind at e rest) (sym same) has))
 contains_entry_after_consumed kind content here rest entries [] e (yields_piece _ _ _ following x more _ first on) (_, same) has =
     inl (entry_unique kind content x e following rest first (subst (λ (at : List ℕ). BeginsWithEntry kind at e rest) (sym same) has)).0
-contains_entry_after_consumed kind content here rest entries (p ∷ passed) e (yields_end _) (_, after, first, on) has =
+contains_entry_after_consumed kind content here rest entries (p ∷ consumed) e (yields_end _) (_, after, first, on) has =
     absurd (nil_begins_with_no_entry kind p after first)
-contains_entry_after_consumed kind content here rest entries (p ∷ passed) e (yields_piece _ _ _ following x more _ first on) (_, after, other, way) has =
+contains_entry_after_consumed kind content here rest entries (p ∷ consumed) e (yields_piece _ _ _ following x more _ first on) (_, after, other, way) has =
     let same = (entry_unique kind content p x after following other first).1 in
-    inr (contains_entry_after_consumed kind following here rest more passed e on
-    (subst (λ (at : List ℕ). runs.Passes (EntryStep kind) tt at passed tt here) same way) has)
+    inr (contains_entry_after_consumed kind following here rest more consumed e on
+    (subst (λ (at : List ℕ). runs.BeginsWithPieces (EntryStep kind) tt at consumed tt here) same way) has)
 
 contains_entry_of_first_named : (kind : Kind) (content : List ℕ) (entries : List EntryView) (name : Name) (e : EntryView) → DecodesToTree kind content entries
     → HasFirstNamed kind content name e → ContainsEntry entries e × (e.name ≡ name)
-contains_entry_of_first_named kind content entries name e is ((_, _, here, rest, (passed, on, none), has), said) =
-    (contains_entry_after_consumed kind content here rest entries passed e (yields_entries_iff kind content entries is) on has, said)
+contains_entry_of_first_named kind content entries name e is ((_, _, here, rest, (consumed, on, none), has), said) =
+    (contains_entry_after_consumed kind content here rest entries consumed e (yields_entries_iff kind content entries is) on has, said)
 
 module _ (objects : Objects) (trees : Trees) (fits : AreTreesOf objects trees) (T : Table) (agrees : AgreesWithStore T trees) where
   filled : (id : ObjectId) → (is_null id ≡ true → ⊥) → IsFalse (is_null id)

@@ -1,4 +1,5 @@
--- The opening of one directory, and then of the directories in it: for openings that a loop makes one after the other.
+-- An opening of a directory, and then of the rest of the path in it, is an opening of the entire path: for openings
+-- that a loop makes one after the other.
 use Rattle.std.proofs.Common.{Bool, ◌≡◌, ◌<◌, ◌+◌, drop, get_or, length, take, ◌≢◌, ◌∙◌, ℕ, true, false, cond, List, [], ◌∷◌, ◌++◌, Option, Some, None, refl, sym, ap, subst}
 use Rattle.std.proofs.lemmas.List.{append-nil, append_assoc, take-append-drop}
 use Rattle.gixobj_hash.specs.declared.hash.object_id.ObjectId.{ObjectId}

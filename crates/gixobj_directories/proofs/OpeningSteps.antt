@@ -1,5 +1,5 @@
--- One step of the opening of the directories on a path: for `open_along` and the other calls that take a path, and for
--- the editor's openings.
+-- An opening of a path is an opening of its first directory and one of the rest below it: for `open_along` and the
+-- other calls that take a path, and for the editor's openings.
 use Rattle.std.proofs.Common.{◌≡◌, ◌≢◌, inl, inr, ◌∙◌, ◌≤◌, ℕ, Bool, true, false, cond, List, [], ◌∷◌, ◌++◌, Option, Some, None, length, length-append, refl, sym, ap, subst, arith}
 use Rattle.std.specs.Prelude.{◌&&◌, IfNone}
 use Rattle.std.proofs.lemmas.Bool.{and_parts}

@@ -76,10 +76,10 @@ remaining_nil node rest (c ∷ cs) none ahead = let there : has_tree (bstring_by
     subst (λ es. has_tree (bstring_bytes c.name) es ≡ true) none ahead.above.0 in absurd (true≢false (sym there))
 
 -- a child adds what is open in it
-pub adds_leaf_trees_of_child : (passed : Option (Bor Child)) (child : Bor Child) → passed ≡ Some child → (ts : List (List EntryView))
+pub adds_leaf_trees_of_child : (child_if_any : Option (Bor Child)) (child : Bor Child) → child_if_any ≡ Some child → (ts : List (List EntryView))
     → leaf_trees child.now.open ≡ ts
-    → (a b ps : List Pair) → Adds a b ts ps → Adds a b (child_leaf_trees (option_copied passed)) ps
-adds_leaf_trees_of_child passed child is ts same a b ps adds =
+    → (a b ps : List Pair) → Adds a b ts ps → Adds a b (child_leaf_trees (option_copied child_if_any)) ps
+adds_leaf_trees_of_child child_if_any child is ts same a b ps adds =
     subst (λ us. Adds a b us ps) (sym (ap (λ (o : Option (Bor Child)). child_leaf_trees (option_copied o)) is ∙ same)) adds
 
 -- a directory whose tree is emitted as a leaf tree
@@ -104,7 +104,7 @@ emits_entries_of_childless : (ds : Opened) (tree base : List EntryView) → ds �
     → EmitsEntries (dirs_of ds) (bases_of ds) es [] es 0
 emits_entries_of_childless ds tree base is [] filled = end (dirs_of ds) (bases_of ds)
 emits_entries_of_childless ds tree base is (e ∷ es) filled =
-    subst (λ own. EmitsEntries (dirs_of ds) (bases_of ds) (e ∷ es) [] own 0) (ap (λ b. cond b [] (e ∷ []) ++ es) filled.0)
+    subst (λ written_tree. EmitsEntries (dirs_of ds) (bases_of ds) (e ∷ es) [] written_tree 0) (ap (λ b. cond b [] (e ∷ []) ++ es) filled.0)
     (unopened (dirs_of ds) (bases_of ds) e es [] es 0 (ap (λ (d : Opened). dirs_of d (e.name ∷ [])) is)
     (emits_entries_of_childless ds tree base is es filled.1))
 

@@ -1,4 +1,5 @@
--- The frames of a walk: each waits for the next. What came of all, and how each is finished where the walk stops.
+-- Frames of a walk, each of which waits for the next, emit pairs of a write of the root, wherever the walk stops; the
+-- proof of `emit_below` uses it.
 use Rattle.std.proofs.Common.{◌≡◌, ◌∙◌, ◌+◌, ℕ, List, [], ◌∷◌, ◌++◌, Some, drop, refl, sym, ap, subst, arith, append_assoc, append-nil}
 use Rattle.std.specs.Prelude.{reverse}
 use Rattle.std.specs.List.{FoldsTo}
@@ -7,7 +8,7 @@ use denote.Ref.{Bor}
 use Rattle.gixobj_tree.specs.Entries.{EntryView, Pair}
 use Rattle.gixobj_files.specs.Edits.{raised}
 use Rattle.gixobj_files.specs.Emission.{EmitsBelow, EmitsEntries, of_entries}
-use Rattle.gixobj_directories.specs.Frames.{EmitsAfter, EmitsNext, HasCome, HasResumed, HasStepped, Waits, frame_weight, held_entries, own_entries, remaining_entries}
+use Rattle.gixobj_directories.specs.Frames.{EmitsAfter, EmitsNext, HasCome, HasResumed, HasStepped, Waits, frame_weight, held_entries, written_entries, remaining_entries}
 use Rattle.gixobj_directories.specs.TakenTrees.{Adds}
 use Rattle.gixobj_open.specs.LeafTrees.{inside_of, leaf_trees}
 use Rattle.gixobj_open.specs.Nested.{Opened, bases_of, dirs_of}
@@ -34,7 +35,7 @@ frames_weight (f ∷ fs) = frame_weight f + frames_weight fs
 
 -- some pairs are emitted below this directory, with this prefix
 abbrev pub EmitsAt : Opened → List Pair → Type 0
-EmitsAt node ps = (own : List EntryView) × (count : ℕ) × EmitsBelow (dirs_of node) (bases_of node) ps own count
+EmitsAt node ps = (written_tree : List EntryView) × (count : ℕ) × EmitsBelow (dirs_of node) (bases_of node) ps written_tree count
 
 -- whatever the inner directory emits, a frame that waits for it emits something with it
 waiting_emits : (f : Frame) (inner : Opened) (ps : List Pair) (ts : List (List EntryView)) (count : ℕ) → Waits f inner ps ts count
@@ -44,13 +45,13 @@ waiting_emits f inner ps ts count waits qs found =
     let rest = walk_exists_of_open f.node.now (drop (f.next + 1) (held_entries f.tree)) in (
       seen.0 ++ rest.0,
       (
-        own_entries f ++ (seen.1 ++ rest.1),
+        written_entries f ++ (seen.1 ++ rest.1),
         count + (seen.2 + rest.2),
         of_entries (dirs_of f.node.now) (bases_of f.node.now) (held_entries f.tree) _ _ _ waits.in_step.root
-            (subst (λ x. EmitsEntries (dirs_of f.node.now) (bases_of f.node.now) (held_entries f.tree) (ps ++ x) (own_entries f ++ (seen.1 ++ rest.1))
+            (subst (λ x. EmitsEntries (dirs_of f.node.now) (bases_of f.node.now) (held_entries f.tree) (ps ++ x) (written_entries f ++ (seen.1 ++ rest.1))
             (count + (seen.2 + rest.2))) (append_assoc qs seen.0 rest.0)
             (walk_goes (dirs_of f.node.now) (bases_of f.node.now) (dirs_of inner) (bases_of inner) (held_entries f.tree) f.next waits.entry
-            ps (qs ++ seen.0) (own_entries f) seen.1 count seen.2 waits.low waits.is waits.dirs waits.bases seen.3 waits.walked
+            ps (qs ++ seen.0) (written_entries f) seen.1 count seen.2 waits.low waits.is waits.dirs waits.bases seen.3 waits.walked
             rest.0 rest.1 rest.2 rest.3)),
       ),
     )
@@ -58,7 +59,7 @@ waiting_emits f inner ps ts count waits qs found =
 append_five : (a b c d e : List Pair) → a ++ ((b ++ (c ++ d)) ++ e) ≡ (a ++ b) ++ (c ++ (d ++ e))
 append_five a b c d e = simp append_assoc
 
--- the same of all frames, finished from the last on
+-- all waiting frames, finished from the last on, emit pairs of a write of the root
 pub all_emit : (root : Opened) (fs : List Frame) (inner : Opened) (ps : List Pair) (ts : List (List EntryView)) (count : ℕ) → AllWait root fs inner ps ts count
     → (qs : List Pair) → EmitsAt inner qs → (more : List Pair) × EmitsAt root (ps ++ (qs ++ more))
 all_emit root [] inner ps ts count all qs found = (
@@ -126,8 +127,8 @@ module _ {F : Type 0} {gave : F → Pair → F → Type 0} {root : Opened} {old 
     calls_more = subst (λ x. FoldsTo gave old x new) (append_assoc so.before so.qs more)
         (folds_to_append gave old (so.before ++ so.qs) mid more new so.called calls)
 
-    pub under_way_passed : HasStepped step.Passed f g more further → IsUnderWay gave root old new had has' was is fs g
-    under_way_passed stepped = record {
+    pub under_way_visited : HasStepped step.Visited f g more further → IsUnderWay gave root old new had has' was is fs g
+    under_way_visited stepped = record {
       before = so.before;
       qs = so.qs ++ more;
       first = so.first;
@@ -142,7 +143,7 @@ module _ {F : Type 0} {gave : F → Pair → F → Type 0} {root : Opened} {old 
     }
 
     pub under_way_ended : HasStepped step.Ends f g more further → IsUnderWay gave root old new had has' was is fs g
-    under_way_ended stepped = under_way_passed (λ ps ts count come. (stepped ps ts count come).0)
+    under_way_ended stepped = under_way_visited (λ ps ts count come. (stepped ps ts count come).0)
 
     pub under_way_begun : (inner : Bor Opened) → HasStepped (step.Begins inner) f g more further → (h : Frame) → h.node.now ≡ inner.now → HasCome h [] [] 0
         → IsUnderWay gave root old new had has' was is (g ∷ fs) h
@@ -200,8 +201,8 @@ module _ {F : Type 0} {gave : F → Pair → F → Type 0} {root : Opened} {old 
 
   -- the last frame has ended
   module _ {mid : F} {has : List Pair} {is : ℕ} {f : Frame} (so : IsUnderWay gave root old mid had has was is [] f) (none : remaining_entries f ≡ []) where
-    pub emits_of_ended : EmitsBelow (dirs_of root) (bases_of root) so.qs (own_entries f) so.n
-    emits_of_ended = subst (λ (d : Opened). EmitsBelow (dirs_of d) (bases_of d) so.qs (own_entries f) so.n) (sym so.waiting.0)
+    pub emits_of_ended : EmitsBelow (dirs_of root) (bases_of root) so.qs (written_entries f) so.n
+    emits_of_ended = subst (λ (d : Opened). EmitsBelow (dirs_of d) (bases_of d) so.qs (written_entries f) so.n) (sym so.waiting.0)
         (emits_below_of_ended f none so.qs so.us so.n so.come)
 
     pub counted_of_ended : is ≡ raised was so.n
@@ -220,7 +221,7 @@ module _ {F : Type 0} {gave : F → Pair → F → Type 0} {root : Opened} {old 
     pub memory_of_ended : {E : Type 0} (rejected : F → List EntryView → E → F → Type 0) (error : WriteError E) → error ≡ write.OutOfMemory
         → IsWriteError gave rejected (EmitsAt root) old mid error
     memory_of_ended rejected error is_error = stopped_at_call gave rejected (EmitsAt root) old mid so.qs [] called_of_ended
-        (subst (EmitsAt root) (sym (append-nil so.qs)) (own_entries f, so.n, emits_of_ended)) error is_error
+        (subst (EmitsAt root) (sym (append-nil so.qs)) (written_entries f, so.n, emits_of_ended)) error is_error
 
   -- a frame has ended, and the one above goes on
   module _ {mid : F} {has : List Pair} {is : ℕ} {fs : List Frame} {parent done : Frame}

@@ -21,8 +21,8 @@ use Rattle.gixobj_directories.specs.declared.frames.Frame.{Frame}
 use Rattle.gixobj_directories.specs.declared.frames.HeldTree.{HeldTree}
 use Rattle.gixobj_directories.specs.declared.frames.HeldTree.TheVariants as held
 use Rattle.gixobj_open.specs.declared.open.Child.{Child}
-use Rattle.gixobj_directories.specs.declared.walk.Passing.{Passing}
-use Rattle.gixobj_directories.specs.declared.walk.Passing.TheVariants as passing
+use Rattle.gixobj_directories.specs.declared.walk.Visit.{Visit}
+use Rattle.gixobj_directories.specs.declared.walk.Visit.TheVariants as visit
 use Rattle.gixobj_directories.specs.declared.walk.Step.{Step}
 use Rattle.gixobj_directories.specs.declared.walk.Step.TheVariants as step
 
@@ -37,7 +37,7 @@ pub record Ahead (node : Opened) (rest : List EntryView) (remaining : List Child
 
 -- the entries that a frame holds
 abbrev pub held_entries : HeldTree → List EntryView
-held_entries (held.Own tree) = tree.now
+held_entries (held.Lent tree) = tree.now
 held_entries (held.Copied tree) = tree
 
 -- the entries that remain in a frame
@@ -45,23 +45,24 @@ abbrev pub remaining_entries : Frame → List EntryView
 remaining_entries f = drop f.next (held_entries f.tree)
 
 -- the written tree of a frame so far
-abbrev pub own_entries : Frame → List EntryView
-own_entries f = so_far f.base.now f.own
+abbrev pub written_entries : Frame → List EntryView
+written_entries f = so_far f.base.now f.written_tree
 
 -- a frame holds the entries and the base of its directory; the children that remain are those of these entries
 pub record IsInStep (f : Frame) (rest : List EntryView) : Type 0 where
   pub root : dirs_of f.node.now [] ≡ Some (held_entries f.tree)
   pub based : bases_of f.node.now [] ≡ Some f.base.now
   pub formed : IsWellFormed (held_entries f.tree)
-  pub shares_base : SharesBase f.base.now f.own
+  pub shares_base : SharesBase f.base.now f.written_tree
   pub filled : AreNonEmpty (λ (p : Vec Child Global). p.items) f.remaining.more.now
   pub ahead : Ahead f.node.now rest (remaining_list f.remaining)
 
 -- these pairs, and whatever the remaining entries emit, are what all entries of the frame emit
 abbrev pub HasWalked : Frame → List Pair → ℕ → Type 0
-HasWalked f ps count = (qs : List Pair) (own : List EntryView) (n : ℕ)
-    → EmitsEntries (dirs_of f.node.now) (bases_of f.node.now) (remaining_entries f) qs own n
-    → EmitsEntries (dirs_of f.node.now) (bases_of f.node.now) (held_entries f.tree) (ps ++ qs) (own_entries f ++ own)
+HasWalked f ps count = (qs : List Pair) (written_tree : List EntryView) (n : ℕ)
+    → EmitsEntries (dirs_of f.node.now) (bases_of f.node.now) (remaining_entries f) qs written_tree n
+    → EmitsEntries (dirs_of f.node.now) (bases_of f.node.now) (held_entries f.tree) (ps ++ qs)
+    (written_entries f ++ written_tree)
     (count + n)
 
 -- what came of a frame: these pairs, leaf trees, and this number of unchanged directories
@@ -74,7 +75,8 @@ pub record HasCome (f : Frame) (ps : List Pair) (ts : List (List EntryView)) (co
 abbrev pub HasRoot : Opened → Type 0
 HasRoot node = (entries : List EntryView) × (dirs_of node [] ≡ Some entries)
 
--- the same of a frame that waits for the directory of its next entry
+-- what came of a frame that waits for the directory of its next entry: these pairs, leaf trees, and this number of
+-- unchanged directories
 pub record Waits (f : Frame) (inner : Opened) (ps : List Pair) (ts : List (List EntryView)) (count : ℕ) : Type 0 where
   pub entry : EntryView
   pub low : f.next < length (held_entries f.tree)
@@ -89,7 +91,7 @@ pub record Waits (f : Frame) (inner : Opened) (ps : List Pair) (ts : List (List 
 
 -- a step, from this frame to this one, with these pairs and leaf trees
 abbrev pub HasStepped : Step → Frame → Frame → List Pair → List (List EntryView) → Type 0
-HasStepped step.Passed old new qs us = (ps : List Pair) (ts : List (List EntryView)) (count : ℕ)
+HasStepped step.Visited old new qs us = (ps : List Pair) (ts : List (List EntryView)) (count : ℕ)
     → HasCome old ps ts count → HasCome new (ps ++ qs) (ts ++ us) count
 HasStepped (step.Begins inner) old new qs us = (ps : List Pair) (ts : List (List EntryView)) (count : ℕ)
     → HasCome old ps ts count → Waits new inner.now (ps ++ qs) (ts ++ us) count
@@ -99,7 +101,8 @@ HasStepped step.Ends old new qs us = (ps : List Pair) (ts : List (List EntryView
 -- the frame emits these pairs next
 abbrev pub EmitsNext : Frame → List Pair → Type 0
 EmitsNext f qs = (ps : List Pair) (ts : List (List EntryView)) (count : ℕ) → HasCome f ps ts count
-    → (own : List EntryView) × (n : ℕ) × EmitsBelow (dirs_of f.node.now) (bases_of f.node.now) (ps ++ qs) own n
+    → (written_tree : List EntryView) × (n : ℕ) × EmitsBelow (dirs_of f.node.now) (bases_of f.node.now)
+    (ps ++ qs) written_tree n
 
 -- the weight of open directories: two for each, and one for each entry
 abbrev pub weight_of : Opened → ℕ
@@ -120,33 +123,34 @@ pub record IsBegun (child : Option Child) (node : Opened) : Type 0 where
   pub root : HasRoot node
 
 -- an entry with this child emits these pairs and gets an id, or the child has to be written first
-abbrev pub IsPassed : Passing → Option Child → EntryView → List Pair → Type 0
-IsPassed (passing.Id id) child e inner =
+abbrev pub IsVisited : Visit → Option Child → EntryView → List Pair → Type 0
+IsVisited (visit.Id id) child e inner =
     EmitsEntry (child_side entries_side child) (child_side base_side child) e inner (entry_unless_null e id) 0
-IsPassed (passing.Begins node) child e inner = IsBegun child node.now × (inner ≡ [])
+IsVisited (visit.Begins node) child e inner = IsBegun child node.now × (inner ≡ [])
 
--- the leaf trees of a child that was passed, or none
-abbrev pub passed_leaf_trees : Passing → Option Child → List (List EntryView)
-passed_leaf_trees (passing.Id id) child = child_leaf_trees child
-passed_leaf_trees (passing.Begins node) child = []
+-- the leaf trees of a child that was visited, or none
+abbrev pub visited_leaf_trees : Visit → Option Child → List (List EntryView)
+visited_leaf_trees (visit.Id id) child = child_leaf_trees child
+visited_leaf_trees (visit.Begins node) child = []
 
 -- after its own pairs a directory of this base and written tree emits these pairs, and its entry becomes these entries
-abbrev pub EmitsOwn : List EntryView → EntryView → List EntryView → List Pair → List EntryView → ℕ → Type 0
-EmitsOwn base e own more kept count = (inside based : Dirs) (inner : List Pair) (n : ℕ) → based [] ≡ Some base
-    → EmitsBelow inside based inner own n → EmitsEntry inside based e (inner ++ more) kept (n + count)
+abbrev pub EmitsWritten : List EntryView → EntryView → List EntryView → List Pair → List EntryView → ℕ → Type 0
+EmitsWritten base e written_tree more kept count = (inside based : Dirs) (inner : List Pair) (n : ℕ)
+    → based [] ≡ Some base
+    → EmitsBelow inside based inner written_tree n → EmitsEntry inside based e (inner ++ more) kept (n + count)
 
--- the frame goes on after the directory that it waited for, whose own tree emitted these pairs
+-- the frame goes on after the directory that it waited for, whose written tree emitted these pairs
 abbrev pub HasResumed : Frame → Frame → Frame → List Pair → ℕ → Type 0
 HasResumed old done new more k = (ps qs : List Pair) (ts us : List (List EntryView)) (count n : ℕ)
     → Waits old done.node.now ps ts count → HasCome done qs us n
     → HasCome new (ps ++ (qs ++ more)) (ts ++ us) (count + (n + k))
 
--- the same, where the write stops
+-- after the directory that the frame waited for, a write that stops has emitted these pairs of its written tree
 abbrev pub EmitsAfter : Frame → Frame → List Pair → Type 0
 EmitsAfter old done more = (ps qs : List Pair) (ts us : List (List EntryView)) (count n : ℕ)
     → Waits old done.node.now ps ts count → HasCome done qs us n
-    → (own : List EntryView) × (saved : ℕ)
-    × EmitsBelow (dirs_of old.node.now) (bases_of old.node.now) (ps ++ (qs ++ more)) own saved
+    → (written_tree : List EntryView) × (saved : ℕ)
+    × EmitsBelow (dirs_of old.node.now) (bases_of old.node.now) (ps ++ (qs ++ more)) written_tree saved
 
 -- the weight of what remains in a frame
 abbrev pub frame_weight : Frame → ℕ
@@ -154,6 +158,6 @@ frame_weight f = length (remaining_entries f) + weight_of (below (parts (remaini
 
 -- the weight of what a directory has that has to be begun
 abbrev pub begun_weight : Step → ℕ
-begun_weight step.Passed = 1
+begun_weight step.Visited = 1
 begun_weight (step.Begins inner) = weight_of inner.now
 begun_weight step.Ends = 0

@@ -12,11 +12,11 @@ child_leaf_trees (Some c) = leaf_trees c.open
 -- pairs in which these trees replace the empty ones, one after the other
 abbrev pub Fills : List Pair → List (List EntryView) → List Pair → Type 0
 Fills [] trees pairs = (trees ≡ []) × (pairs ≡ [])
-Fills (passed ∷ rest) trees pairs =
-    ((more : List Pair) × (passed.1 ≢ []) × (pairs ≡ passed ∷ more) × Fills rest trees more)
-    ⊎ ((tree : List EntryView) × (remaining : List (List EntryView)) × (more : List Pair) × (passed.1 ≡ [])
-    × (trees ≡ tree ∷ remaining) × (pairs ≡ (passed.0, tree) ∷ more) × Fills rest remaining more)
+Fills (pair ∷ rest) trees pairs =
+    ((more : List Pair) × (pair.1 ≢ []) × (pairs ≡ pair ∷ more) × Fills rest trees more)
+    ⊎ ((tree : List EntryView) × (remaining : List (List EntryView)) × (more : List Pair) × (pair.1 ≡ [])
+    × (trees ≡ tree ∷ remaining) × (pairs ≡ (pair.0, tree) ∷ more) × Fills rest remaining more)
 
 -- the pairs that were appended are these pairs, once the trees replace the empty ones
 abbrev pub Adds : List Pair → List Pair → List (List EntryView) → List Pair → Type 0
-Adds old new trees pairs = (passed : List Pair) × (new ≡ old ++ passed) × Fills passed trees pairs
+Adds old new trees pairs = (appended : List Pair) × (new ≡ old ++ appended) × Fills appended trees pairs

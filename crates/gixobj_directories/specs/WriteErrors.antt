@@ -15,9 +15,9 @@ use Rattle.gixobj_directories.specs.declared.write.WriteError.TheVariants as wri
 abbrev pub EmitsEntry : Dirs → Dirs → EntryView → List Pair → List EntryView → ℕ → Type 0
 EmitsEntry inside based e inner kept saved =
     (dirs bases : Dirs) → in_dir e.name dirs ≡ inside → in_dir e.name bases ≡ based
-    → (entries : List EntryView) (below : List Pair) (own : List EntryView) (more : ℕ)
-    → EmitsEntries dirs bases entries below own more
-    → EmitsEntries dirs bases (e ∷ entries) (inner ++ below) (kept ++ own) (saved + more)
+    → (entries : List EntryView) (below : List Pair) (written_tree : List EntryView) (more : ℕ)
+    → EmitsEntries dirs bases entries below written_tree more
+    → EmitsEntries dirs bases (e ∷ entries) (inner ++ below) (kept ++ written_tree) (saved + more)
 
 -- the entry with this id, or no entry if there is no id
 abbrev pub entry_if_some : EntryView → Option ObjectId → List EntryView

@@ -14,7 +14,7 @@ use std::alloc::{AllocError, Global};
 #[derive(Drop)]
 pub(crate) enum HeldTree<'a> {
     /// The tree of the directory.
-    Own(&'a Tree),
+    Lent(&'a Tree),
     /// A copy of its entries.
     Copied(Tree),
 }
@@ -33,7 +33,7 @@ pub(crate) struct Frame<'a> {
     /// The directories that are open in it, from that of the next entry on.
     pub(crate) remaining: Remaining<'a>,
     /// Its written tree so far.
-    pub(crate) own: WrittenTree,
+    pub(crate) written_tree: WrittenTree,
 }
 
 impl HeldTree<'_> {
@@ -42,7 +42,7 @@ impl HeldTree<'_> {
         ensures { result.now ≡ held_entries self.now }
     {
         match self {
-            HeldTree::Own(tree) => &tree.entries,
+            HeldTree::Lent(tree) => &tree.entries,
             HeldTree::Copied(tree) => &tree.entries,
         }
     }
@@ -53,7 +53,7 @@ fn held_tree(alloc: Global, entries: &Entries) -> Result<HeldTree<'_>, AllocErro
     ensures { IfOk result (λ tree. held_entries tree ≡ entries.now) }
 {
     if let Some(tree) = entries.as_tree() {
-        return Ok(HeldTree::Own(tree));
+        return Ok(HeldTree::Lent(tree));
     }
     let copy = entries.copied(alloc)?;
     Ok(HeldTree::Copied(copy))
@@ -75,6 +75,6 @@ pub(crate) fn begin(alloc: Global, node: &Open) -> Result<Frame<'_>, AllocError>
         tree,
         next: 0,
         remaining,
-        own: WrittenTree::new(),
+        written_tree: WrittenTree::new(),
     })
 }

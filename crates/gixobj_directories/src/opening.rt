@@ -340,8 +340,8 @@ fn open_recursively<S: Find>(
     let Some((name, rest)) = path.split_first() else {
         return Ok(());
     };
-    if let Some(place) = node.children.position(name) {
-        let child = node.children.at_mut(place);
+    if let Some(child_position) = node.children.position(name) {
+        let child = node.children.at_mut(child_position);
         return open_recursively(alloc, &mut child.open, rest, not_looked_up, store, lookups);
     }
     let Some(id) = next_id(&node.entries, name, not_looked_up) else {

@@ -52,7 +52,7 @@ fn take_leaf_tree(node: Open, trees: &mut Vec<Tree>)
     ensures items { trees.new.items ≡ trees.old.items ++ reverse (leaf_trees node) }
     ensures capacity { vec_capacity trees.old ≤ vec_capacity trees.new }
 {
-    let Some(mut waiting) = take_own_tree(node, trees) else {
+    let Some(mut waiting) = take_written_tree(node, trees) else {
         return;
     };
     while let Some((rest, last)) = waiting.split_last() {
@@ -75,7 +75,7 @@ fn take_last_tree(last: Open, rest: Open, trees: &mut Vec<Tree>) -> Open
     let mut current = last;
     let mut waiting = rest;
     loop {
-        let Some(directory) = take_own_tree(current, trees) else {
+        let Some(directory) = take_written_tree(current, trees) else {
             return waiting;
         };
         if !waiting.has_open_directory() {
@@ -89,7 +89,7 @@ fn take_last_tree(last: Open, rest: Open, trees: &mut Vec<Tree>) -> Open
 
 /// Returns the directory if one is open in it. Otherwise its tree is moved to the end of `trees` if it is a leaf
 /// tree.
-fn take_own_tree(node: Open, trees: &mut Vec<Tree>) -> Option<Open>
+fn take_written_tree(node: Open, trees: &mut Vec<Tree>) -> Option<Open>
     requires has_capacity { vec_len trees.old + length (leaf_trees node) ≤ vec_capacity trees.old }
     ensures some { IfSome result (λ it. (it ≡ node) × (inside_of node ≢ [])
         × (leaf_trees node ≡ leaf_trees (inside_of node)) × (trees.new ≡ trees.old)) }

@@ -9,7 +9,7 @@ ghost use Rattle.gixobj_files.specs.Edits.{raised};
 ghost use Rattle.gixobj_files.specs.Emission.{EmitsBelow};
 ghost use Rattle.gixobj_files.specs.WrittenTrees.{SharesBase, so_far};
 ghost use Rattle.gixobj_directories.specs.Calls.{IsCallableOnTrees, IsStorable, answered, denied};
-ghost use Rattle.gixobj_directories.specs.Frames.{EmitsAfter, EmitsNext, EmitsOwn, HasCome, HasResumed, HasStepped, IsInStep, IsPassed, Waits, begun_weight, frame_weight, passed_leaf_trees, remaining_entries};
+ghost use Rattle.gixobj_directories.specs.Frames.{EmitsAfter, EmitsNext, EmitsWritten, HasCome, HasResumed, HasStepped, IsInStep, IsVisited, Waits, begun_weight, frame_weight, visited_leaf_trees, remaining_entries};
 ghost use Rattle.gixobj_directories.specs.TakenTrees.{Adds};
 ghost use Rattle.gixobj_open.specs.LeafTrees.{inside_of, leaf_trees};
 ghost use Rattle.gixobj_open.specs.Nested.{base_side, bases_of, dirs_of, entries_side};
@@ -29,7 +29,7 @@ use std::mem;
 #[derive(Drop)]
 pub(crate) enum Step<'a> {
     /// It consumed an entry.
-    Passed,
+    Visited,
     /// The directory of the next entry has to be written first.
     Begins(&'a Open),
     /// No entry remains.
@@ -38,7 +38,7 @@ pub(crate) enum Step<'a> {
 
 /// What has to be done for an entry.
 #[derive(Drop)]
-pub(crate) enum Passing<'a> {
+pub(crate) enum Visit<'a> {
     /// The entry gets this id.
     Id(ObjectId),
     /// Its directory has to be written first.
@@ -62,22 +62,26 @@ pub(crate) fn emit_below<E, F: FnMut(&Tree) -> Result<ObjectId, E>>(
         × FoldsTo (answered F.FnMut) out.old below out.new) }
     ensures storable { IfOk result (λ tree. IsStorable tree) }
     ensures error { IfErr result (IsWriteError (answered F.FnMut) (denied F.FnMut)
-        (λ ps. (own : List EntryView) × (count : ℕ)
-        × EmitsBelow (dirs_of node.now) (bases_of node.now) ps own count) out.old out.new) }
+        (λ ps. (written_tree : List EntryView) × (count : ℕ)
+        × EmitsBelow (dirs_of node.now) (bases_of node.now) ps written_tree count) out.old out.new) }
 {
     let mut above = Vec::new(alloc);
     let mut frame = begin(alloc, node)?;
     'frames: loop {
         match advance(alloc, &mut frame, out, pairs)? {
-            Step::Passed => {}
+            Step::Visited => {}
             Step::Begins(inner) => {
                 let begun = begin(alloc, inner)?;
                 wait(&mut above, &mut frame, begun)?;
             }
             Step::Ends => {
                 let Some(mut parent) = above.pop() else {
-                    let Frame { base, own, .. } = frame;
-                    let tree = own.into_tree(alloc, base)?;
+                    let Frame {
+                        base,
+                        written_tree,
+                        ..
+                    } = frame;
+                    let tree = written_tree.into_tree(alloc, base)?;
                     return Ok(tree);
                 };
                 resume(alloc, &mut parent, frame, out, pairs, saved)?;
@@ -128,27 +132,34 @@ fn advance<'a, E, F: FnMut(&Tree) -> Result<ObjectId, E>>(
     let entry = &entries[frame.next];
     let (child, remaining) = frame.remaining.next_of(entry);
     frame.remaining = remaining;
-    let id = match pass(alloc, entry, child, out, pairs)? {
-        Passing::Begins(inner) => return Ok(Step::Begins(inner)),
-        Passing::Id(id) => Some(id),
+    let id = match visit_entry(alloc, entry, child, out, pairs)? {
+        Visit::Begins(inner) => return Ok(Step::Begins(inner)),
+        Visit::Id(id) => Some(id),
     };
-    append_unless_null(alloc, &mut frame.own, frame.base, entry, id, entries.len())?;
+    append_unless_null(
+        alloc,
+        &mut frame.written_tree,
+        frame.base,
+        entry,
+        id,
+        entries.len(),
+    )?;
     frame.next += 1;
-    Ok(Step::Passed)
+    Ok(Step::Visited)
 }
 
 /// Returns the id that an entry gets, unless its directory has to be written first. A leaf tree is emitted.
-fn pass<'a, E, F: FnMut(&Tree) -> Result<ObjectId, E>>(
+fn visit_entry<'a, E, F: FnMut(&Tree) -> Result<ObjectId, E>>(
     alloc: Global,
     entry: &Entry,
     child: Option<&'a Child>,
     out: &mut F,
     pairs: &mut Vec<(ObjectId, Tree)>,
-) -> Result<Passing<'a>, WriteError<E>>
+) -> Result<Visit<'a>, WriteError<E>>
     requires callable { IsCallableOnTrees F.pre (answered F.FnMut) out.old }
     ensures emitted { IfOk result (λ it. (inner : List Pair)
-        × IsPassed it (option_copied child.entry) entry.now inner
-        × Adds pairs.old.items pairs.new.items (passed_leaf_trees it (option_copied child.entry)) inner
+        × IsVisited it (option_copied child.entry) entry.now inner
+        × Adds pairs.old.items pairs.new.items (visited_leaf_trees it (option_copied child.entry)) inner
         × FoldsTo (answered F.FnMut) out.old inner out.new) }
     ensures error { IfErr result (IsWriteError (answered F.FnMut) (denied F.FnMut)
         (λ inner. (kept : List EntryView) × (count : ℕ)
@@ -157,15 +168,15 @@ fn pass<'a, E, F: FnMut(&Tree) -> Result<ObjectId, E>>(
         out.new) }
 {
     let Some(child) = child else {
-        return Ok(Passing::Id(entry.oid));
+        return Ok(Visit::Id(entry.oid));
     };
     let mut slot = Tree::empty(alloc);
     let leaf = child.open.leaf_tree(alloc, &mut slot)?;
     if let Some(tree) = leaf {
-        let passed = emit_leaf_tree(alloc, tree, out, pairs)?;
-        return Ok(Passing::Id(passed));
+        let emitted_id = emit_leaf_tree(alloc, tree, out, pairs)?;
+        return Ok(Visit::Id(emitted_id));
     }
-    Ok(Passing::Begins(&child.open))
+    Ok(Visit::Begins(&child.open))
 }
 
 /// Emits the written tree of a directory that has ended, and goes to the next entry of the directory above.
@@ -194,11 +205,15 @@ fn resume<E, F: FnMut(&Tree) -> Result<ObjectId, E>>(
 {
     let entries = parent.tree.entries();
     let entry = &entries[parent.next];
-    let Frame { base, own, .. } = done;
-    let id = written_id(alloc, entry, own, base, out, pairs, saved)?;
+    let Frame {
+        base,
+        written_tree,
+        ..
+    } = done;
+    let id = written_id(alloc, entry, written_tree, base, out, pairs, saved)?;
     append_unless_null(
         alloc,
-        &mut parent.own,
+        &mut parent.written_tree,
         parent.base,
         entry,
         id,
@@ -213,32 +228,32 @@ fn resume<E, F: FnMut(&Tree) -> Result<ObjectId, E>>(
 fn written_id<E, F: FnMut(&Tree) -> Result<ObjectId, E>>(
     alloc: Global,
     entry: &Entry,
-    own: WrittenTree,
+    written_tree: WrittenTree,
     base: &[Entry],
     out: &mut F,
     pairs: &mut Vec<(ObjectId, Tree)>,
     saved: &mut usize,
 ) -> Result<Option<ObjectId>, WriteError<E>>
     requires callable { IsCallableOnTrees F.pre (answered F.FnMut) out.old }
-    requires shares_base { SharesBase base.now own }
-    requires storable { IsStorable (so_far base.now own) }
+    requires shares_base { SharesBase base.now written_tree }
+    requires storable { IsStorable (so_far base.now written_tree) }
     ensures emitted { IfOk result (λ id. (more : List Pair) × (count : ℕ)
         × Adds pairs.old.items pairs.new.items [] more × (saved.new ≡ raised saved.old count)
         × FoldsTo (answered F.FnMut) out.old more out.new
-        × EmitsOwn base.now entry.now (so_far base.now own) more (entry_if_some entry.now id) count) }
+        × EmitsWritten base.now entry.now (so_far base.now written_tree) more (entry_if_some entry.now id) count) }
     ensures error { IfErr result (IsWriteError (answered F.FnMut) (denied F.FnMut)
         (λ more. (kept : List EntryView) × (count : ℕ)
-        × EmitsOwn base.now entry.now (so_far base.now own) more kept count) out.old out.new) }
+        × EmitsWritten base.now entry.now (so_far base.now written_tree) more kept count) out.old out.new) }
 {
-    if own.has_no_entries() {
+    if written_tree.has_no_entries() {
         return Ok(None);
     }
-    if own.is_base(base) {
+    if written_tree.is_base(base) {
         count(saved);
         let unchanged = entry.oid;
         return Ok(Some(unchanged));
     }
-    let tree = own.into_tree(alloc, base)?;
+    let tree = written_tree.into_tree(alloc, base)?;
     let id = emit_tree(tree, out, pairs)?;
     Ok(Some(id))
 }
@@ -254,18 +269,18 @@ fn count(saved: &mut usize)
 /// entries.
 fn append_unless_null(
     alloc: Global,
-    own: &mut WrittenTree,
+    written_tree: &mut WrittenTree,
     base: &[Entry],
     entry: &Entry,
     id: Option<ObjectId>,
     room: usize,
 ) -> Result<(), AllocError>
-    requires { SharesBase base.now own.old }
-    ensures entries { OnOk result (so_far base.now own.new
-        ≡ so_far base.now own.old ++ entry_if_some entry.now id) }
-    ensures shares_base { OnOk result (SharesBase base.now own.new) }
+    requires { SharesBase base.now written_tree.old }
+    ensures entries { OnOk result (so_far base.now written_tree.new
+        ≡ so_far base.now written_tree.old ++ entry_if_some entry.now id) }
+    ensures shares_base { OnOk result (SharesBase base.now written_tree.new) }
     ensures allocates { OnErr result ((rest : List EntryView)
-        → (so_far base.now own.old ++ entry_if_some entry.now id) ++ rest ≢ base.now) }
+        → (so_far base.now written_tree.old ++ entry_if_some entry.now id) ++ rest ≢ base.now) }
 {
     let Some(id) = id else {
         return Ok(());
@@ -273,5 +288,5 @@ fn append_unless_null(
     if id.is_null() {
         return Ok(());
     }
-    own.push(alloc, base, entry, id, room)
+    written_tree.push(alloc, base, entry, id, room)
 }

@@ -100,8 +100,8 @@ fn emit_below_copied<E, F: FnMut(&Tree) -> Result<ObjectId, E>>(
     ensures storable { IfOk result (λ it. IsStorable it.0) }
     ensures is_at { IfOk result (λ it. IsTrue it.1 → dirs_of node.now [] ≡ Some it.0) }
     ensures error { IfErr result (IsWriteError (answered F.FnMut) (denied F.FnMut)
-        (λ ps. (own : List EntryView) × (count : ℕ)
-        × EmitsBelow (dirs_of node.now) (bases_of node.now) ps own count) out.old out.new) }
+        (λ ps. (written_tree : List EntryView) × (count : ℕ)
+        × EmitsBelow (dirs_of node.now) (bases_of node.now) ps written_tree count) out.old out.new) }
 {
     let mut slot = Tree::empty(alloc);
     let leaf = node.leaf_tree(alloc, &mut slot)?;
@@ -206,11 +206,11 @@ pub fn write_all<E, F: FnMut(&Tree) -> Result<ObjectId, E>>(
     out: &mut F,
 ) -> Result<Written, WriteError<E>>
     requires { IsCallableOnTrees F.pre (answered F.FnMut) out.old }
-    ensures written { IfOk result (λ it. (below : List Pair) × (own : List EntryView)
-        × Saves (dirs_of node.old) (bases_of node.old) below own it.saved
-        × (it.trees.items ≡ below ++ (it.id, own) ∷ [])
-        × FoldsTo (answered F.FnMut) out.old (below ++ (it.id, own) ∷ []) out.new × IsStorable own
-        × ((base : List EntryView) × (node.new ≡ opened own base []))) }
+    ensures written { IfOk result (λ it. (below : List Pair) × (written_tree : List EntryView)
+        × Saves (dirs_of node.old) (bases_of node.old) below written_tree it.saved
+        × (it.trees.items ≡ below ++ (it.id, written_tree) ∷ [])
+        × FoldsTo (answered F.FnMut) out.old (below ++ (it.id, written_tree) ∷ []) out.new × IsStorable written_tree
+        × ((base : List EntryView) × (node.new ≡ opened written_tree base []))) }
     ensures bases { OnOk result ((at : Path)
         → bases_of node.new at ≡ edited_bases (dirs_of node.old) (dirs_of node.new)
         (bases_of node.old) at) }
@@ -229,11 +229,11 @@ fn write_settled<E, F: FnMut(&Tree) -> Result<ObjectId, E>>(
     out: &mut F,
 ) -> Result<Written, WriteError<E>>
     requires { IsCallableOnTrees F.pre (answered F.FnMut) out.old }
-    ensures written { IfOk result (λ it. (below : List Pair) × (own : List EntryView)
-        × Saves (dirs_of node.old) (bases_of node.old) below own it.saved
-        × (it.trees.items ≡ below ++ (it.id, own) ∷ [])
-        × FoldsTo (answered F.FnMut) out.old (below ++ (it.id, own) ∷ []) out.new × IsStorable own
-        × ((base : List EntryView) × (node.new ≡ opened own base []))) }
+    ensures written { IfOk result (λ it. (below : List Pair) × (written_tree : List EntryView)
+        × Saves (dirs_of node.old) (bases_of node.old) below written_tree it.saved
+        × (it.trees.items ≡ below ++ (it.id, written_tree) ∷ [])
+        × FoldsTo (answered F.FnMut) out.old (below ++ (it.id, written_tree) ∷ []) out.new × IsStorable written_tree
+        × ((base : List EntryView) × (node.new ≡ opened written_tree base []))) }
     ensures bases { OnOk result ((at : Path)
         → bases_of node.new at ≡ edited_bases (dirs_of node.old) (dirs_of node.new)
         (bases_of node.old) at) }
@@ -243,27 +243,27 @@ fn write_settled<E, F: FnMut(&Tree) -> Result<ObjectId, E>>(
 {
     let mut trees = Vec::new(alloc);
     let mut saved = 0;
-    let (own, placed) = emit_below_copied(alloc, node, out, &mut trees, &mut saved)?;
+    let (written_tree, is_written) = emit_below_copied(alloc, node, out, &mut trees, &mut saved)?;
     let mut complete_trees = Vec::with_capacity(alloc, trees.len())?;
-    let id = emit(&own, out, &mut trees)?;
-    become_own(&mut node.entries, &own, placed);
+    let id = emit(&written_tree, out, &mut trees)?;
+    take_written_entries(&mut node.entries, &written_tree, is_written);
     let children = mem::replace(&mut node.children, Children::new(alloc));
     take_leaf_trees(children, &mut complete_trees);
     fill(&mut trees, complete_trees);
-    let _ = trees.push((id, own));
+    let _ = trees.push((id, written_tree));
     Ok(Written { id, trees, saved })
 }
 
-/// Makes a directory's entries those of its written tree, which they already are if `placed`.
-fn become_own(entries: &mut Entries, own: &Tree, placed: bool)
-    requires well_formed { IsWellFormed own.now }
-    requires filtered { IsFilteredTree own.now entries.old }
-    requires non_null { All (λ e. IsFalse (is_null e.id)) own.now }
-    requires is_at { IsTrue placed → own.now ≡ entries.old }
-    ensures { entries.new ≡ own.now }
+/// Makes a directory's entries those of its written tree, which they already are if `is_written`.
+fn take_written_entries(entries: &mut Entries, written_tree: &Tree, is_written: bool)
+    requires well_formed { IsWellFormed written_tree.now }
+    requires filtered { IsFilteredTree written_tree.now entries.old }
+    requires non_null { All (λ e. IsFalse (is_null e.id)) written_tree.now }
+    requires is_at { IsTrue is_written → written_tree.now ≡ entries.old }
+    ensures { entries.new ≡ written_tree.now }
 {
-    if !placed {
-        entries.become_tree(own);
+    if !is_written {
+        entries.become_tree(written_tree);
     }
 }
 
@@ -288,13 +288,13 @@ pub fn write_at<E, F: FnMut(&Tree) -> Result<ObjectId, E>>(
 ) -> Result<Written, WriteError<E>>
     requires callable { IsCallableOnTrees F.pre (answered F.FnMut) out.old }
     requires is_open { dirs_of node.old (names_of path.now) ≢ None }
-    ensures written { IfOk result (λ it. (below : List Pair) × (own : List EntryView)
+    ensures written { IfOk result (λ it. (below : List Pair) × (written_tree : List EntryView)
         × Saves (in_path (names_of path.now) (dirs_of node.old))
-        (in_path (names_of path.now) (bases_of node.old)) below own it.saved
-        × (it.trees.items ≡ below ++ (it.id, own) ∷ [])
-        × FoldsTo (answered F.FnMut) out.old (below ++ (it.id, own) ∷ []) out.new × IsStorable own
+        (in_path (names_of path.now) (bases_of node.old)) below written_tree it.saved
+        × (it.trees.items ≡ below ++ (it.id, written_tree) ∷ [])
+        × FoldsTo (answered F.FnMut) out.old (below ++ (it.id, written_tree) ∷ []) out.new × IsStorable written_tree
         × ((at : Path) → dirs_of node.new at
-        ≡ with_path (names_of path.now) (only_open own) (dirs_of node.old) at)) }
+        ≡ with_path (names_of path.now) (only_open written_tree) (dirs_of node.old) at)) }
     ensures bases { OnOk result ((at : Path)
         → bases_of node.new at ≡ edited_bases (dirs_of node.old) (dirs_of node.new)
         (bases_of node.old) at) }
@@ -321,13 +321,13 @@ fn write_recursively<E, F: FnMut(&Tree) -> Result<ObjectId, E>>(
 ) -> Result<Written, WriteError<E>>
     requires callable { IsCallableOnTrees F.pre (answered F.FnMut) out.old }
     requires is_open { dirs_of node.old (names_of path.now) ≢ None }
-    ensures written { IfOk result (λ it. (below : List Pair) × (own : List EntryView)
+    ensures written { IfOk result (λ it. (below : List Pair) × (written_tree : List EntryView)
         × Saves (in_path (names_of path.now) (dirs_of node.old))
-        (in_path (names_of path.now) (bases_of node.old)) below own it.saved
-        × (it.trees.items ≡ below ++ (it.id, own) ∷ [])
-        × FoldsTo (answered F.FnMut) out.old (below ++ (it.id, own) ∷ []) out.new × IsStorable own
+        (in_path (names_of path.now) (bases_of node.old)) below written_tree it.saved
+        × (it.trees.items ≡ below ++ (it.id, written_tree) ∷ [])
+        × FoldsTo (answered F.FnMut) out.old (below ++ (it.id, written_tree) ∷ []) out.new × IsStorable written_tree
         × ((at : Path) → dirs_of node.new at
-        ≡ with_path (names_of path.now) (only_open own) (dirs_of node.old) at)) }
+        ≡ with_path (names_of path.now) (only_open written_tree) (dirs_of node.old) at)) }
     ensures bases { OnOk result ((at : Path)
         → bases_of node.new at ≡ edited_bases (dirs_of node.old) (dirs_of node.new)
         (bases_of node.old) at) }
@@ -339,9 +339,9 @@ fn write_recursively<E, F: FnMut(&Tree) -> Result<ObjectId, E>>(
     let Some((name, rest)) = path.split_first() else {
         return write_all(alloc, node, out);
     };
-    let Some(place) = node.children.position(name) else {
+    let Some(child_position) = node.children.position(name) else {
         unreachable!()
     };
-    let child = node.children.at_mut(place);
+    let child = node.children.at_mut(child_position);
     write_recursively(alloc, &mut child.open, rest, out)
 }

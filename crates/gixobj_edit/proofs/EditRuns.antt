@@ -9,7 +9,7 @@ use Rattle.gixobj_directories.specs.declared.write.WriteError.TheVariants as wri
 use Rattle.gixobj_edit.specs.Edits.{command_steps, edit_steps, write_of_root}
 use Rattle.gixobj_edit.specs.Replies.{EndsInWrite, IsReplyToWrite, edit_reply_failure, edits_failure, or_later, reply_failure}
 use Rattle.gixobj_edit.specs.declared.failure.Failure.{Failure}
-use Rattle.gixobj_editor.specs.Commands.{Place, accepted_steps, at_cursor, at_root, emitted_pairs, pairs_of, pairs_of_edit, steps_of, steps_of_edit, steps_of_edits}
+use Rattle.gixobj_editor.specs.Commands.{Location, accepted_steps, at_cursor, at_root, emitted_pairs, pairs_of, pairs_of_edit, steps_of, steps_of_edit, steps_of_edits}
 use Rattle.gixobj_editor.specs.Cursors.{cursor_path}
 use Rattle.gixobj_editor.specs.Replies.{Answers, AreEditReplies, IsEditReply, IsReply, IsRun}
 use Rattle.gixobj_editor.specs.Views.{command_view, edit_view}
@@ -41,28 +41,29 @@ or_later_none (Some it) later none = absurd (cc none)
 module _ {S : Type 0} (model : StoreModel S) (answers : Answers Error) where
   -- ---- steps
 
-  edit_done_steps : (place : Place) (old new : State S) (it : Edit) (its_reply : EditReply Error) → IsEditReply model answers place old it its_reply new
-      → edit_reply_failure its_reply ≡ None → steps_of_edit place it its_reply ≡ edit_steps place (edit_view it)
-  edit_done_steps place old new (edit.Upsert path kind id) edit_reply.Done is done = refl
-  edit_done_steps place old new (edit.Remove path) edit_reply.Done is done = refl
-  edit_done_steps place old new (edit.RemoveLeaf path) edit_reply.Done is done = refl
-  edit_done_steps place old new edit.Write (edit_reply.Written written) is done = refl
-  edit_done_steps place old new it (edit_reply.Refused error) is done = absurd (cc done)
-  edit_done_steps place old new it (edit_reply.WriteRefused (write.Out error)) is done = absurd (cc done)
-  edit_done_steps place old new it (edit_reply.WriteRefused write.OutOfMemory) is done = absurd (cc done)
-  edit_done_steps place old new it (edit_reply.NotKept written count error) is done = absurd (cc done)
-  edit_done_steps place old new it its_reply is done = absurd is
+  edit_done_steps : (location : Location) (old new : State S) (it : Edit) (its_reply : EditReply Error)
+      → IsEditReply model answers location old it its_reply new
+      → edit_reply_failure its_reply ≡ None → steps_of_edit location it its_reply ≡ edit_steps location (edit_view it)
+  edit_done_steps location old new (edit.Upsert path kind id) edit_reply.Done is done = refl
+  edit_done_steps location old new (edit.Remove path) edit_reply.Done is done = refl
+  edit_done_steps location old new (edit.RemoveLeaf path) edit_reply.Done is done = refl
+  edit_done_steps location old new edit.Write (edit_reply.Written written) is done = refl
+  edit_done_steps location old new it (edit_reply.Refused error) is done = absurd (cc done)
+  edit_done_steps location old new it (edit_reply.WriteRefused (write.Out error)) is done = absurd (cc done)
+  edit_done_steps location old new it (edit_reply.WriteRefused write.OutOfMemory) is done = absurd (cc done)
+  edit_done_steps location old new it (edit_reply.NotKept written count error) is done = absurd (cc done)
+  edit_done_steps location old new it its_reply is done = absurd is
 
-  edits_done_steps : (place : Place) (old new : State S) (edits : List Edit) (replies : List (EditReply Error))
-      → AreEditReplies model answers place old edits replies new → edits_failure replies ≡ None
-      → steps_of_edits place edits replies ≡ flat_map (edit_steps place) (map edit_view edits)
-  edits_done_steps place old new [] [] is done = refl
-  edits_done_steps place old new (it ∷ edits) (its_reply ∷ replies) (between, first, rest) done =
+  edits_done_steps : (location : Location) (old new : State S) (edits : List Edit) (replies : List (EditReply Error))
+      → AreEditReplies model answers location old edits replies new → edits_failure replies ≡ None
+      → steps_of_edits location edits replies ≡ flat_map (edit_steps location) (map edit_view edits)
+  edits_done_steps location old new [] [] is done = refl
+  edits_done_steps location old new (it ∷ edits) (its_reply ∷ replies) (between, first, rest) done =
       let none = or_later_none (edit_reply_failure its_reply) (edits_failure replies) done in
-      ap (λ (steps : List Step). steps ++ steps_of_edits place edits replies) (edit_done_steps place old between it its_reply first none.0)
-      ∙ ap (λ (steps : List Step). edit_steps place (edit_view it) ++ steps) (edits_done_steps place between new edits replies rest none.1)
-  edits_done_steps place old new [] (its_reply ∷ replies) is done = absurd is
-  edits_done_steps place old new (it ∷ edits) [] is done = absurd is
+      ap (λ (steps : List Step). steps ++ steps_of_edits location edits replies) (edit_done_steps location old between it its_reply first none.0)
+      ∙ ap (λ (steps : List Step). edit_steps location (edit_view it) ++ steps) (edits_done_steps location between new edits replies rest none.1)
+  edits_done_steps location old new [] (its_reply ∷ replies) is done = absurd is
+  edits_done_steps location old new (it ∷ edits) [] is done = absurd is
 
   done_steps : (old new : State S) (it : Command) (its_reply : Reply Error) → IsReply model answers old it its_reply new → IsDone its_reply
       → steps_of it its_reply ≡ command_steps (command_view it)
@@ -88,25 +89,25 @@ module _ {S : Type 0} (model : StoreModel S) (answers : Answers Error) where
 
   -- ---- emitted trees
 
-  edit_encodable : (place : Place) (old new : State S) (it : Edit) (its_reply : EditReply Error) → IsEditReply model answers place old it its_reply new
+  edit_encodable : (location : Location) (old new : State S) (it : Edit) (its_reply : EditReply Error) → IsEditReply model answers location old it its_reply new
       → edit_reply_failure its_reply ≡ None → All IsEncodable (pairs_of_edit its_reply)
-  edit_encodable place old new it edit_reply.Done is done = All-nil IsEncodable
-  edit_encodable place old new edit.Write (edit_reply.Written written) is done = is.stored.1
-  edit_encodable place old new it (edit_reply.Refused error) is done = absurd (cc done)
-  edit_encodable place old new it (edit_reply.WriteRefused (write.Out error)) is done = absurd (cc done)
-  edit_encodable place old new it (edit_reply.WriteRefused write.OutOfMemory) is done = absurd (cc done)
-  edit_encodable place old new it (edit_reply.NotKept written count error) is done = absurd (cc done)
-  edit_encodable place old new it its_reply is done = absurd is
+  edit_encodable location old new it edit_reply.Done is done = All-nil IsEncodable
+  edit_encodable location old new edit.Write (edit_reply.Written written) is done = is.stored.1
+  edit_encodable location old new it (edit_reply.Refused error) is done = absurd (cc done)
+  edit_encodable location old new it (edit_reply.WriteRefused (write.Out error)) is done = absurd (cc done)
+  edit_encodable location old new it (edit_reply.WriteRefused write.OutOfMemory) is done = absurd (cc done)
+  edit_encodable location old new it (edit_reply.NotKept written count error) is done = absurd (cc done)
+  edit_encodable location old new it its_reply is done = absurd is
 
-  edits_encodable : (place : Place) (old new : State S) (edits : List Edit) (replies : List (EditReply Error))
-      → AreEditReplies model answers place old edits replies new → edits_failure replies ≡ None → All IsEncodable (flat_map pairs_of_edit replies)
-  edits_encodable place old new [] [] is done = All-nil IsEncodable
-  edits_encodable place old new (it ∷ edits) (its_reply ∷ replies) (between, first, rest) done =
+  edits_encodable : (location : Location) (old new : State S) (edits : List Edit) (replies : List (EditReply Error))
+      → AreEditReplies model answers location old edits replies new → edits_failure replies ≡ None → All IsEncodable (flat_map pairs_of_edit replies)
+  edits_encodable location old new [] [] is done = All-nil IsEncodable
+  edits_encodable location old new (it ∷ edits) (its_reply ∷ replies) (between, first, rest) done =
       let none = or_later_none (edit_reply_failure its_reply) (edits_failure replies) done in
-      All-append IsEncodable (pairs_of_edit its_reply) (flat_map pairs_of_edit replies) (edit_encodable place old between it its_reply first none.0)
-      (edits_encodable place between new edits replies rest none.1)
-  edits_encodable place old new [] (its_reply ∷ replies) is done = absurd is
-  edits_encodable place old new (it ∷ edits) [] is done = absurd is
+      All-append IsEncodable (pairs_of_edit its_reply) (flat_map pairs_of_edit replies) (edit_encodable location old between it its_reply first none.0)
+      (edits_encodable location between new edits replies rest none.1)
+  edits_encodable location old new [] (its_reply ∷ replies) is done = absurd is
+  edits_encodable location old new (it ∷ edits) [] is done = absurd is
 
   reply_encodable : (old new : State S) (it : Command) (its_reply : Reply Error) → IsReply model answers old it its_reply new → IsDone its_reply
       → All IsEncodable (pairs_of its_reply)

@@ -1,4 +1,5 @@
--- The results of `edited` by its parts: `editor_of`, `replies_of`, `new_trees` and `last_id` use it.
+-- The replies to an edit script end in a write, whose id and trees are what `edited` returns: `editor_of`,
+-- `replies_of`, `new_trees` and `last_id` use it.
 use Rattle.std.proofs.Common.{◌≡◌, ◌∷◌, ◌++◌, ◌-◌, ◌∙◌, Contains, List, [], ℕ, ap, arith, inr, length, length-append, refl, subst, sym, take}
 use Rattle.std.proofs.Math.Seq.{take-append_seam}
 use Rattle.std.proofs.lemmas.List.Elements.{All-contains, All-take, Contains-push}

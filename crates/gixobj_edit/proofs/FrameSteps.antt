@@ -5,8 +5,8 @@ use Rattle.std.proofs.lemmas.List.{length-drop, length-take-le}
 use Rattle.std.specs.FinMap as map
 use Rattle.std.specs.Prelude.{Err, None, Ok, Option, Result, Some}
 use Rattle.gixobj_edit.specs.Frames.{AreFrames, AreNoFrames, BeginsWithFrame, FrameComes, objects_of, with_contents}
-use Rattle.gixobj_fields.proofs.Runs.{passes_one, yields_passed}
-use Rattle.gixobj_fields.specs.Runs.{HasNoPiece, Passes, Yields, broken, complete, yields_end, yields_error}
+use Rattle.gixobj_fields.proofs.Runs.{begins_with_pieces_snoc, yields_of_begins_with_pieces}
+use Rattle.gixobj_fields.specs.Runs.{HasNoPiece, BeginsWithPieces, Yields, broken, complete, yields_end, yields_error}
 use Rattle.gixobj_hash.proofs.Headers.{parts_of_loose_header}
 use Rattle.gixobj_hash.specs.Decode.{HasLooseHeaderOfLength}
 use Rattle.gixobj_hash.specs.Hash.{id_of}
@@ -84,16 +84,16 @@ objects_snoc hash contents content old new id inserted same is =
     ∙ ap (λ (objects : Objects). map.insert objects (id_of hash kind.Tree content) (stored_tree hash content)) is
     ∙ sym (with_contents_snoc hash contents content map.empty)
 
-module _ (bytes rest : List ℕ) (contents : List (List ℕ)) (passes : Passes FrameComes tt bytes contents tt rest) where
-  pub frames_snoc : (content after : List ℕ) → BeginsWithFrame rest content after → Passes FrameComes tt bytes (contents ++ content ∷ []) tt after
-  frames_snoc content after is = passes_one FrameComes tt tt tt bytes rest after contents content passes is
+module _ (bytes rest : List ℕ) (contents : List (List ℕ)) (begins_with : BeginsWithPieces FrameComes tt bytes contents tt rest) where
+  pub frames_snoc : (content after : List ℕ) → BeginsWithFrame rest content after → BeginsWithPieces FrameComes tt bytes (contents ++ content ∷ []) tt after
+  frames_snoc content after is = begins_with_pieces_snoc FrameComes tt tt tt bytes rest after contents content begins_with is
 
   pub frames_end : rest ≡ [] → AreFrames bytes contents
   frames_end none =
       let yields : Yields FrameComes tt rest [] complete = rw none (yields_end tt) in
-      yields_passed FrameComes tt tt bytes rest contents complete passes yields
+      yields_of_begins_with_pieces FrameComes tt tt bytes rest contents complete begins_with yields
 
   pub frames_broken : rest ≢ [] → HasNoPiece FrameComes tt rest → AreNoFrames bytes
   frames_broken some none =
       let yields : Yields FrameComes tt rest [] broken = yields_error tt rest some none in
-      (contents, yields_passed FrameComes tt tt bytes rest contents broken passes yields)
+      (contents, yields_of_begins_with_pieces FrameComes tt tt bytes rest contents broken begins_with yields)

@@ -10,7 +10,7 @@ use Rattle.gixobj_edit.specs.Replies.{AreDone, IsFirstFailure}
 use Rattle.gixobj_edit.specs.Roots.{IsRootError, IsRootOf}
 use Rattle.gixobj_edit.specs.declared.failure.Failure.{Failure}
 use Rattle.gixobj_edit.specs.declared.failure.Failure.TheVariants as failure
-use Rattle.gixobj_editor.specs.Commands.{Place, accepted_steps, at_cursor, at_root, emitted_pairs, path_at, written_at}
+use Rattle.gixobj_editor.specs.Commands.{Location, accepted_steps, at_cursor, at_root, emitted_pairs, path_at, written_at}
 use Rattle.gixobj_editor.specs.Cursors.{cursor_path}
 use Rattle.gixobj_editor.specs.Replies.{IsRun}
 use Rattle.gixobj_editor.specs.RunTables.{AgreesWithRun}
@@ -86,12 +86,12 @@ pub record IsRunOf (hash : Kind) (trees root script : List ℕ) (replies : List 
 
 -- ---- success
 
--- the step of an edit at the place; a write has none
-abbrev pub edit_steps : Place → EditView → List Step
-edit_steps place (upsert names kind id) = history.upsert (path_at place names) (mode_of_kind kind) id ∷ []
-edit_steps place (remove names) = history.remove (path_at place names) ∷ []
-edit_steps place (remove_leaf names) = history.remove (path_at place names) ∷ []
-edit_steps place write = []
+-- the step of an edit at this location; a write has none
+abbrev pub edit_steps : Location → EditView → List Step
+edit_steps location (upsert names kind id) = history.upsert (path_at location names) (mode_of_kind kind) id ∷ []
+edit_steps location (remove names) = history.remove (path_at location names) ∷ []
+edit_steps location (remove_leaf names) = history.remove (path_at location names) ∷ []
+edit_steps location write = []
 
 -- the steps of a command: those of edits in a directory come after it is ensured
 abbrev pub command_steps : CommandView → List Step

@@ -4,7 +4,7 @@ use Rattle.std.specs.Prelude.{◌≡◌, ◌++◌, ℕ, Contains, List, [], ◌�
 use Rattle.std.specs.FinMap as map
 use Rattle.gixobj_edit.specs.declared.failure.Failure.{Failure}
 use Rattle.gixobj_edit.specs.declared.failure.Failure.TheVariants as failure
-use Rattle.gixobj_fields.specs.Runs.{Passes, Yields, broken, complete}
+use Rattle.gixobj_fields.specs.Runs.{BeginsWithPieces, Yields, broken, complete}
 use Rattle.gixobj_hash.specs.Decode.{HasLooseHeaderOfLength}
 use Rattle.gixobj_hash.specs.Encode.{encode_loose_header}
 use Rattle.gixobj_hash.specs.Hash.{id_of}
@@ -53,7 +53,7 @@ HoldsFrames hash bytes store = (contents : List (List ℕ)) × AreFrames bytes c
 -- after some frames comes another one
 abbrev pub HasFrame : List ℕ → Type 0
 HasFrame bytes = (contents : List (List ℕ)) × (content rest after : List ℕ)
-    × Passes FrameComes tt bytes contents tt rest × BeginsWithFrame rest content after
+    × BeginsWithPieces FrameComes tt bytes contents tt rest × BeginsWithFrame rest content after
 
 -- Malformed: the bytes are no frames; OutOfMemory: there is a frame, whose tree is stored
 abbrev pub IsFramesError : List ℕ → Failure → Type 0

@@ -12,7 +12,7 @@ use Rattle.gixobj_editor.specs.Cursors.{cursor_path}
 use Rattle.gixobj_files.specs.Files.{Path}
 use Rattle.gixobj_files.specs.State.{State}
 use Rattle.gixobj_tree.specs.Entries.{Pair}
-use Rattle.gixobj_editor.specs.Commands.{Place, at_cursor, at_root, emitted_pairs, pairs_of, pairs_of_edit}
+use Rattle.gixobj_editor.specs.Commands.{Location, at_cursor, at_root, emitted_pairs, pairs_of, pairs_of_edit}
 use Rattle.gixobj_editor.specs.Replies.{Answers, AreEditReplies, ReturnsTreeId, IsEditReply, IsReply, IsReplyAt, IsRun, IsWrittenAt}
 use Rattle.gixobj_editor.specs.declared.reply.EditReply.{EditReply}
 use Rattle.gixobj_editor.specs.declared.reply.EditReply.TheVariants as edit_reply
@@ -29,27 +29,27 @@ module _ {S E : Type 0} (model : StoreModel S) (answers : Answers E) where
   called requested [] answered is = All-nil IsAnswered
   called requested (pair ∷ pairs) answered (next, one, rest) = All-cons IsAnswered pair pairs one (called next pairs answered rest)
 
-  written : (place : Place) (it : Written) (old new : State S) → IsWrittenAt answers place it old new → All IsAnswered it.trees.items
+  written : (location : Location) (it : Written) (old new : State S) → IsWrittenAt answers location it old new → All IsAnswered it.trees.items
   written at_root it old new is = called tt it.trees.items tt is.called
   written (at_cursor prefix) it old new is = called tt it.trees.items tt is.called
 
-  edit_answered : (place : Place) (old new : State S) (it : Edit) (its_reply : EditReply E) → IsEditReply model answers place old it its_reply new
+  edit_answered : (location : Location) (old new : State S) (it : Edit) (its_reply : EditReply E) → IsEditReply model answers location old it its_reply new
       → All IsAnswered (pairs_of_edit its_reply)
-  edit_answered place old new edit.Write (edit_reply.Written it) is = written place it old is.between is.written
-  edit_answered place old new edit.Write (edit_reply.NotKept it count error) is = written place it old is.between is.written
-  edit_answered place old new it edit_reply.Done is = All-nil IsAnswered
-  edit_answered place old new it (edit_reply.Refused error) is = All-nil IsAnswered
-  edit_answered place old new it (edit_reply.WriteRefused error) is = All-nil IsAnswered
-  edit_answered place old new it its_reply is = absurd is
+  edit_answered location old new edit.Write (edit_reply.Written it) is = written location it old is.between is.written
+  edit_answered location old new edit.Write (edit_reply.NotKept it count error) is = written location it old is.between is.written
+  edit_answered location old new it edit_reply.Done is = All-nil IsAnswered
+  edit_answered location old new it (edit_reply.Refused error) is = All-nil IsAnswered
+  edit_answered location old new it (edit_reply.WriteRefused error) is = All-nil IsAnswered
+  edit_answered location old new it its_reply is = absurd is
 
-  edits_answered : (place : Place) (old new : State S) (edits : List Edit) (replies : List (EditReply E))
-      → AreEditReplies model answers place old edits replies new → All IsAnswered (flat_map pairs_of_edit replies)
-  edits_answered place old new [] [] is = All-nil IsAnswered
-  edits_answered place old new (it ∷ edits) (its_reply ∷ replies) (between, first, rest) =
-      All-append IsAnswered (pairs_of_edit its_reply) (flat_map pairs_of_edit replies) (edit_answered place old between it its_reply first)
-      (edits_answered place between new edits replies rest)
-  edits_answered place old new [] (its_reply ∷ replies) is = absurd is
-  edits_answered place old new (it ∷ edits) [] is = absurd is
+  edits_answered : (location : Location) (old new : State S) (edits : List Edit) (replies : List (EditReply E))
+      → AreEditReplies model answers location old edits replies new → All IsAnswered (flat_map pairs_of_edit replies)
+  edits_answered location old new [] [] is = All-nil IsAnswered
+  edits_answered location old new (it ∷ edits) (its_reply ∷ replies) (between, first, rest) =
+      All-append IsAnswered (pairs_of_edit its_reply) (flat_map pairs_of_edit replies) (edit_answered location old between it its_reply first)
+      (edits_answered location between new edits replies rest)
+  edits_answered location old new [] (its_reply ∷ replies) is = absurd is
+  edits_answered location old new (it ∷ edits) [] is = absurd is
 
   at_answered : (prefix : Path) (old new : State S) (edits : List Edit) (its_reply : Reply E) → IsReplyAt model answers prefix old edits its_reply new
       → All IsAnswered (pairs_of its_reply)

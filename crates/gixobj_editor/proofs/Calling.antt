@@ -68,7 +68,7 @@ module _ {F E : Type 0} (of : Shared F (Bor (List EntryView) × Unit {0}) (Resul
     called = (folds out it.trees.items last refl wrote.called calls).0;
     storable = wrote.storable;
     below = wrote.below;
-    own = wrote.own;
+    written_tree = wrote.written_tree;
     last = wrote.last;
     dirs = wrote.dirs;
     bases = wrote.bases;
@@ -86,7 +86,7 @@ module _ {F E : Type 0} (of : Shared F (Bor (List EntryView) × Unit {0}) (Resul
     called = (folds out it.trees.items last refl wrote.called calls).0;
     storable = wrote.storable;
     below = wrote.below;
-    own = wrote.own;
+    written_tree = wrote.written_tree;
     last = wrote.last;
     dirs = wrote.dirs;
     bases = wrote.bases;

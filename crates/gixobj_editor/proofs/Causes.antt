@@ -5,7 +5,7 @@ use Rattle.std.specs.declared.alloc.Global.{Global}
 use Rattle.std.specs.declared.vec.Vec.{Vec}
 use Rattle.gixobj_directories.specs.Openings.{OfTrees}
 use Rattle.gixobj_editor.specs.Causes.{HasCausesAt, HasKeepCause, HasReplyCauses, HaveEditCauses, HaveRunCauses}
-use Rattle.gixobj_editor.specs.Commands.{Place, at_cursor}
+use Rattle.gixobj_editor.specs.Commands.{Location, at_cursor}
 use Rattle.gixobj_editor.specs.Cursors.{IsEnsured}
 use Rattle.gixobj_editor.specs.Replies.{Answers, IsEditReply, IsReply, reply_to}
 use Rattle.gixobj_editor.specs.declared.command.Command.{Command}
@@ -55,22 +55,22 @@ module _ {S E : Type 0} (model : StoreModel S) (errors : KeepErrors S) (answers 
       → HaveRunCauses model errors answers first all seen old
   no_more_causes old first all rest seen none entire = rw append-nil at (entire [] old (rw (nil_of_len_zero rest none) refl))
 
-  pub one_more_edit_cause : (place : Place) (old between first new : State S) (edit : Edit) (all rest edits : List Edit) (its_reply : EditReply E)
-      (seen seen' replies : List (EditReply E)) → IsEditReply model answers place old edit its_reply between
+  pub one_more_edit_cause : (location : Location) (old between first new : State S) (edit : Edit) (all rest edits : List Edit) (its_reply : EditReply E)
+      (seen seen' replies : List (EditReply E)) → IsEditReply model answers location old edit its_reply between
       → HasKeepCause model.objects errors old.store its_reply
       → rest ≡ edit ∷ edits → seen' ≡ seen ++ its_reply ∷ []
-      → ((rs : List (EditReply E)) (s : State S) → HaveEditCauses model errors answers place old rest rs s
-      → HaveEditCauses model errors answers place first all (seen ++ rs) s)
-      → HaveEditCauses model errors answers place between edits replies new
-      → HaveEditCauses model errors answers place first all (seen' ++ replies) new
-  one_more_edit_cause place old between first new edit all rest edits its_reply seen seen' replies one cause is pushed entire later =
+      → ((rs : List (EditReply E)) (s : State S) → HaveEditCauses model errors answers location old rest rs s
+      → HaveEditCauses model errors answers location first all (seen ++ rs) s)
+      → HaveEditCauses model errors answers location between edits replies new
+      → HaveEditCauses model errors answers location first all (seen' ++ replies) new
+  one_more_edit_cause location old between first new edit all rest edits its_reply seen seen' replies one cause is pushed entire later =
       rw (pushed, append_assoc) (entire (its_reply ∷ replies) new (rw is (between, one, cause, later)))
 
-  pub no_more_edit_causes : (place : Place) (old first : State S) (all rest : List Edit) (seen : List (EditReply E)) → length rest ≡ 0
-      → ((rs : List (EditReply E)) (s : State S) → HaveEditCauses model errors answers place old rest rs s
-      → HaveEditCauses model errors answers place first all (seen ++ rs) s)
-      → HaveEditCauses model errors answers place first all seen old
-  no_more_edit_causes place old first all rest seen none entire = rw append-nil at (entire [] old (rw (nil_of_len_zero rest none) refl))
+  pub no_more_edit_causes : (location : Location) (old first : State S) (all rest : List Edit) (seen : List (EditReply E)) → length rest ≡ 0
+      → ((rs : List (EditReply E)) (s : State S) → HaveEditCauses model errors answers location old rest rs s
+      → HaveEditCauses model errors answers location first all (seen ++ rs) s)
+      → HaveEditCauses model errors answers location first all seen old
+  no_more_edit_causes location old first all rest seen none entire = rw append-nil at (entire [] old (rw (nil_of_len_zero rest none) refl))
 
   -- the causes in replies to edits by a cursor, as the editor outside sees them
   pub causes_at : (prefix at : Path) (old lent pending new : State S) (edits : List Edit) (replies : Vec (EditReply E) Global) → at ≡ prefix

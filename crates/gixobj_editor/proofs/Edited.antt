@@ -164,18 +164,18 @@ no_tree_is_idle e other = inl other
 
 -- no directory is above the root
 pub no_error_above : (trees : Trees) (dirs : Dirs) (it : ObjectId) → IsUnopenedAbove trees dirs [] it → ⊥
-no_error_above trees dirs it h = longer h.place (h.above.2) (h.above.3) (h.above.5)
+no_error_above trees dirs it h = longer h.parent (h.above.2) (h.above.3) (h.above.5)
   where
-    longer : (place : Path) (next : List ℕ) (rest : Path) → [] ≡ place ++ next ∷ rest → ⊥
+    longer : (parent : Path) (next : List ℕ) (rest : Path) → [] ≡ parent ++ next ∷ rest → ⊥
     longer [] next rest is = cc is
-    longer (name ∷ place) next rest is = cc is
+    longer (name ∷ parent) next rest is = cc is
 
 pub tree_known_above : {StopsBefore : EntryView → Type 0} → IsIdle StopsBefore → (trees : Trees) (path head : Path) (last : List ℕ) → path ≡ head ++ last ∷ []
     → (old new : Dirs) (queries : List ObjectId) → Opens StopsBefore trees head old new queries → (it : ObjectId) → IsUnopenedAbove trees old path it
     → (entries : List EntryView) × (trees it ≡ Some entries)
 tree_known_above idle trees path head last is old new queries opens it h =
     let at = h.above in
-    let begins = prefix_extends head last h.place at.2 at.3 (sym is ∙ at.5) in
+    let begins = prefix_extends head last h.parent at.2 at.3 (sym is ∙ at.5) in
     let found = opens_known trees idle head old new queries opens at.0 at.1 begins.0 (begins.1 ∙ ap (λ p. p ++ begins.0) at.4)
     (subst (λ p. is_unopened trees old p ≡ true) at.4 h.unopened) h.entry (subst (λ p. looked_up_entry trees p old ≡ Some h.entry) at.4 h.yielded) in
     (found.0, ap trees (sym h.named) ∙ found.1)

@@ -59,12 +59,12 @@ unopened_of_no_tree trees path old new queries opens at none =
     ] refl
 
 -- below a directory that isn't open none is open
-dirs_none_below_unopened : (path : Path) (dirs : Dirs) → IsOpened dirs → (place more : Path) → path ≡ place ++ more → dirs place ≡ None → dirs path ≡ None
-dirs_none_below_unopened path dirs all place more is none =
+dirs_none_below_unopened : (path : Path) (dirs : Dirs) → IsOpened dirs → (parent more : Path) → path ≡ parent ++ more → dirs parent ≡ None → dirs path ≡ None
+dirs_none_below_unopened path dirs all parent more is none =
     elim (dirs path) as (λ o. dirs path ≡ o → o ≡ None) [
       | None ↦ λ _. refl
       | Some entries ↦ λ there. absurd
-          (open_of_longer_open dirs all place more
+          (open_of_longer_open dirs all parent more
           (subst (λ p. dirs p ≢ None) is (λ unopened. let bad : Some entries ≡ None = sym there ∙ unopened in cc bad)) none)
     ] refl
 
@@ -88,12 +88,12 @@ module _ {S : Type 0} (store : S) (hash : Kind) (prefix : Path) (trees : Trees) 
   abbrev made : Opened → ℕ → State S
   made ds n = state_of store hash prefix ds n
 
-  in_place : (ds mid ds' : Opened) (n m : ℕ) (path : Path) (queries : List ObjectId) → AreNames path
+  is_ensured_of_opens : (ds mid ds' : Opened) (n m : ℕ) (path : Path) (queries : List ObjectId) → AreNames path
       → Opens IsNoTree trees path (dirs_of ds) (dirs_of mid) queries
       → ((at : Path) → dirs_of ds' at ≡ ensured_dirs path (null_id hash) (dirs_of mid) at)
       → m ≡ counted n queries
       → OpenedOn ds → OpenedSo ds mid → EditedSo mid ds' → IsEnsured trees (made ds n) path (state_of store hash path ds' m)
-  in_place ds mid ds' n m path queries names opens ensured count was first then =
+  is_ensured_of_opens ds mid ds' n m path queries names opens ensured count was first then =
       let opened : Opens IsNoTree trees path (map_dirs ds) (dirs_of mid) queries =
       subst (λ (d : Dirs). Opens IsNoTree trees path d (dirs_of mid) queries)
       (sym (map_dirs_eq ds)) opens in
@@ -124,7 +124,7 @@ module _ {S : Type 0} (store : S) (hash : Kind) (prefix : Path) (trees : Trees) 
   ensured_at ds mid ds' n m old view path queries names opens ensured count was first then named is =
       subst (λ (p : Path). IsEnsured trees old path (state_of store hash p ds' m)) (sym is)
       (subst (λ (o : State S). IsEnsured trees o path (state_of store hash path ds' m)) view
-      (in_place ds mid ds' n m path queries names opens ensured count was first then))
+      (is_ensured_of_opens ds mid ds' n m path queries names opens ensured count was first then))
 
   -- the error of an opening that halts
   pub rejects_at : (objects : Objects) (may_fail : ObjectId → Bool) (ds ds' : Opened) (n : ℕ) (old : State S) → made ds n ≡ old → (path : Path)
@@ -142,8 +142,8 @@ module _ {S : Type 0} (store : S) (hash : Kind) (prefix : Path) (trees : Trees) 
       above v h it some = (halted_at trees path [] [] (dirs_of ds) (dirs_of ds') queries v h it some).0
 
       unopened_at : IsUnopenedOnPath IsNoTree trees (dirs_of ds) (in_directory path) → dirs_of ds path ≡ None
-      unopened_at h = let begins = prefix_extends path [] h.place h.above.2 h.above.3 h.above.5 in dirs_none_below_unopened path
-          (dirs_of ds) all h.place begins.0 begins.1 h.not_open
+      unopened_at h = let begins = prefix_extends path [] h.parent h.above.2 h.above.3 h.above.5 in dirs_none_below_unopened path
+          (dirs_of ds) all h.parent begins.0 begins.1 h.not_open
 
       by_cause : (why : directory.Error) (v : Option ObjectId) → StopsOpening IsNoTree trees path (dirs_of ds) (dirs_of ds') queries v
           → IsOpenErrorAt objects may_fail v why → IsCursorError objects may_fail trees (dirs_of ds) path (edit_error why)

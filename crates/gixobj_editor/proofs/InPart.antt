@@ -48,7 +48,7 @@ module _ {StopsBefore : EntryView → Type 0} (objects : Objects) (may_fail : Ob
   pub prefix_in_part : (path head more : Path) → path ≡ head ++ more → (old new : Dirs) (queries : List ObjectId) → Opens StopsBefore trees head old new queries
       → length queries ≤ unopened_count trees old path → (n m : ℕ) → m ≡ counted n queries → (failure : Error) → (¬ IsLookupError failure)
       → OpensInPart StopsBefore objects may_fail trees path old new n m failure
-  prefix_in_part path head more is old new queries opens few n m count failure other = record {
+  prefix_in_part path head more is old new queries opens at_most n m count failure other = record {
     reached = head;
     more = more;
     on_the_way = is;
@@ -58,7 +58,7 @@ module _ {StopsBefore : EntryView → Type 0} (objects : Objects) (may_fail : Ob
     cause = other;
     next = λ it is. absurd (cc is);
     lookups = count ∙ ap (counted n) (sym (append-nil queries));
-    at_most_unopened = subst (λ ids. length ids ≤ unopened_count trees old path) (sym (append-nil queries)) few;
+    at_most_unopened = subst (λ ids. length ids ≤ unopened_count trees old path) (sym (append-nil queries)) at_most;
   }
 
   pub opened_in_part : (path head : Path) (last : List ℕ) (after : Path) → path ≡ head ++ last ∷ after → (old new : Dirs) (queries : List ObjectId)

@@ -9,12 +9,12 @@ use Rattle.gixobj_hash.specs.declared.hash.object_id.ObjectId.{ObjectId}
 use Rattle.gixobj_keep.specs.Keeping.{StopsKeepingAt, with_trees}
 use Rattle.gixobj_tree.specs.TreeEncoding.{IsEncodableTree}
 use Rattle.gixobj_keep.specs.declared.keeping.KeepError.{KeepError}
-use Rattle.gixobj_editor.specs.Commands.{Place}
+use Rattle.gixobj_editor.specs.Commands.{Location}
 use Rattle.gixobj_editor.specs.Replies.{Answers, IsEditReply, IsWriteKept, IsWrittenAt, KeepsAll}
 use Rattle.gixobj_editor.specs.declared.reply.EditReply.TheVariants as edit_reply
 
-module _ {S E : Type 0} (model : StoreModel S) (answers : Answers E) (place : Place) (old between new : State S) (start remaining : S) (it : Written)
-    (lent : List Pair) (written : IsWrittenAt answers place it old between)
+module _ {S E : Type 0} (model : StoreModel S) (answers : Answers E) (location : Location) (old between new : State S) (start remaining : S) (it : Written)
+    (lent : List Pair) (written : IsWrittenAt answers location it old between)
     (same : between.store ≡ old.store) (starts : start ≡ between.store) (all : lent ≡ it.trees.items) (rest : new ≡ with_store between remaining)
     (may_fail : (id : ObjectId) → model.may_fail remaining id ≡ model.may_fail start id) where
   start_is : start ≡ old.store
@@ -24,7 +24,7 @@ module _ {S E : Type 0} (model : StoreModel S) (answers : Answers E) (place : Pl
   remaining_is = ap (λ (s : State S). s.store) rest
 
   kept_so : (Keeps : Objects → Objects → Type 0) → Keeps (model.objects start) (model.objects remaining)
-      → IsWriteKept model (IsWrittenAt answers place it old) Keeps old new
+      → IsWriteKept model (IsWrittenAt answers location it old) Keeps old new
   kept_so Keeps kept = record {
     between = between;
     written = written;
@@ -35,13 +35,13 @@ module _ {S E : Type 0} (model : StoreModel S) (answers : Answers E) (place : Pl
   }
 
   pub kept_all : model.objects remaining ≡ with_trees lent (model.objects start) → All (λ pair. IsEncodableTree pair.1) lent
-      → IsEditReply model answers place old edit.Write (edit_reply.Written it) new
+      → IsEditReply model answers location old edit.Write (edit_reply.Written it) new
   kept_all kept all_have_encodings =
       kept_so (KeepsAll it.trees.items) (subst (λ (pairs : List Pair). KeepsAll pairs (model.objects start) (model.objects remaining)) all
       (kept, all_have_encodings))
 
   pub not_kept : (count : ℕ) (error : KeepError) → StopsKeepingAt (model.may_fail start) lent (model.objects start) (model.objects remaining) count error
-      → IsEditReply model answers place old edit.Write (edit_reply.NotKept it count error) new
+      → IsEditReply model answers location old edit.Write (edit_reply.NotKept it count error) new
   not_kept count error stops =
       kept_so (λ before after. StopsKeepingAt (model.may_fail old.store) it.trees.items before after count error)
       (subst (λ (pairs : List Pair). StopsKeepingAt (model.may_fail old.store) pairs (model.objects start) (model.objects remaining) count error) all

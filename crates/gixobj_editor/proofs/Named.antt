@@ -20,7 +20,7 @@ use Rattle.gixobj_files.specs.State.{EditorFiles, State, open_bases, open_dirs}
 use Rattle.gixobj_tree.specs.Entries.{Pair}
 use Rattle.gixobj_files.specs.Tables.{AgreesWithPairs, AgreesWithStore}
 use Rattle.gixobj_keep.specs.Keeping.{with_trees}
-use Rattle.gixobj_editor.specs.Commands.{Place, accepted_steps, at_cursor, at_root, kept_of, kept_of_edit, emitted_pairs, kept_pairs, pairs_of, pairs_of_edit, pairs_of_write, steps_at, steps_of, steps_of_edit, steps_of_edits, written_at, written_by}
+use Rattle.gixobj_editor.specs.Commands.{Location, accepted_steps, at_cursor, at_root, kept_of, kept_of_edit, emitted_pairs, kept_pairs, pairs_of, pairs_of_edit, pairs_of_write, steps_at, steps_of, steps_of_edit, steps_of_edits, written_at, written_by}
 use Rattle.gixobj_editor.specs.Replies.{Answers, AreEditReplies, IsEditReply, IsReply, IsReplyAt, IsRun, IsWriteKept, IsWrittenAt}
 use Rattle.gixobj_editor.specs.RunTables.{AgreesWithObjects, AgreesWithRun}
 use Rattle.gixobj_editor.specs.declared.reply.EditReply.{EditReply}
@@ -53,10 +53,10 @@ flat_map_take_is_prefix f (suc k) (x ∷ xs) = let more =
 pub agrees_with_run_prefix : {E : Type 0} (T : Table) (objects : Objects) (k : ℕ) (replies : List (Reply E)) → AgreesWithRun T objects replies
     → AgreesWithRun T objects (take k replies)
 agrees_with_run_prefix T objects k replies agrees =
-    let passed = flat_map_take_is_prefix pairs_of k replies in
+    let is_prefix = flat_map_take_is_prefix pairs_of k replies in
     let kept = flat_map_take_is_prefix kept_of k replies in
     record {
-      writes = agrees_with_prefix T (emitted_pairs (take k replies)) passed.0 (subst (λ (ps : List Pair). AgreesWithPairs T ps) passed.1 agrees.writes);
+      writes = agrees_with_prefix T (emitted_pairs (take k replies)) is_prefix.0 (subst (λ (ps : List Pair). AgreesWithPairs T ps) is_prefix.1 agrees.writes);
       stores = agrees_throughout_prefix T (kept_pairs (take k replies)) kept.0 objects
           (subst (λ (ps : List Pair). AgreesThroughout T ps objects) kept.1 agrees.stores);
     }
@@ -70,35 +70,36 @@ agrees_with_written_pairs T (r ∷ replies) agrees (suc k) written is =
     agrees_with_written_pairs T replies (agrees_with_suffix T (pairs_of r) (emitted_pairs replies) agrees) k written is
 
 module _ {S E : Type 0} (model : StoreModel S) (answers : Answers E) where
-  pub edit_keeps : (place : Place) (old new : State S) (it : Edit) (its_reply : EditReply E) → IsEditReply model answers place old it its_reply new
+  pub edit_keeps : (location : Location) (old new : State S) (it : Edit) (its_reply : EditReply E) → IsEditReply model answers location old it its_reply new
       → model.objects new.store ≡ with_trees (kept_of_edit its_reply) (model.objects old.store)
-  edit_keeps place old new (edit.Upsert path kind id) edit_reply.Done h = let it =
+  edit_keeps location old new (edit.Upsert path kind id) edit_reply.Done h = let it =
       trees_exist_of_objects _ _ h in ap (λ (s : State S). model.objects s.store) it.2.rest
-  edit_keeps place old new (edit.Upsert path kind id) (edit_reply.Refused error) h = let it =
+  edit_keeps location old new (edit.Upsert path kind id) (edit_reply.Refused error) h = let it =
       trees_exist_of_objects _ _ h.0.effect in ap (λ (s : State S). model.objects s.store) it.2.rest
-  edit_keeps place old new (edit.Remove path) edit_reply.Done h = let it = trees_exist_of_objects _ _ h in ap (λ (s : State S). model.objects s.store) it.2.rest
-  edit_keeps place old new (edit.Remove path) (edit_reply.Refused error) h = let it =
+  edit_keeps location old new (edit.Remove path) edit_reply.Done h = let it = trees_exist_of_objects _ _ h in
+      ap (λ (s : State S). model.objects s.store) it.2.rest
+  edit_keeps location old new (edit.Remove path) (edit_reply.Refused error) h = let it =
       trees_exist_of_objects _ _ h.effect in ap (λ (s : State S). model.objects s.store) it.2.rest
-  edit_keeps place old new (edit.RemoveLeaf path) edit_reply.Done h = let it =
+  edit_keeps location old new (edit.RemoveLeaf path) edit_reply.Done h = let it =
       trees_exist_of_objects _ _ h in ap (λ (s : State S). model.objects s.store) it.2.removed.rest
-  edit_keeps place old new (edit.RemoveLeaf path) (edit_reply.Refused error) h = let it =
+  edit_keeps location old new (edit.RemoveLeaf path) (edit_reply.Refused error) h = let it =
       trees_exist_of_objects _ _ h.effect in ap (λ (s : State S). model.objects s.store) it.2.rest
-  edit_keeps place old new edit.Write (edit_reply.Written written) h = h.stored.0
-  edit_keeps place old new edit.Write (edit_reply.NotKept written count error) h = h.stored.stored
-  edit_keeps place old new edit.Write (edit_reply.WriteRefused error) h = ap (λ (s : State S). model.objects s.store) h.unchanged
-  edit_keeps place old new it its_reply h = absurd h
+  edit_keeps location old new edit.Write (edit_reply.Written written) h = h.stored.0
+  edit_keeps location old new edit.Write (edit_reply.NotKept written count error) h = h.stored.stored
+  edit_keeps location old new edit.Write (edit_reply.WriteRefused error) h = ap (λ (s : State S). model.objects s.store) h.unchanged
+  edit_keeps location old new it its_reply h = absurd h
 
-  edits_keep : (place : Place) (old new : State S) (edits : List Edit) (replies : List (EditReply E))
-      → AreEditReplies model answers place old edits replies new
+  edits_keep : (location : Location) (old new : State S) (edits : List Edit) (replies : List (EditReply E))
+      → AreEditReplies model answers location old edits replies new
       → model.objects new.store ≡ with_trees (flat_map kept_of_edit replies) (model.objects old.store)
-  edits_keep place old new [] [] h = ap (λ (s : State S). model.objects s.store) h
-  edits_keep place old new (it ∷ edits) (r ∷ replies) (between, first, rest) =
+  edits_keep location old new [] [] h = ap (λ (s : State S). model.objects s.store) h
+  edits_keep location old new (it ∷ edits) (r ∷ replies) (between, first, rest) =
       with_trees_append_stored (kept_of_edit r) (flat_map kept_of_edit replies) (model.objects old.store) (model.objects between.store)
       (model.objects new.store)
-      (edit_keeps place old between it r first)
-      (edits_keep place between new edits replies rest)
-  edits_keep place old new [] (r ∷ replies) h = absurd h
-  edits_keep place old new (it ∷ edits) [] h = absurd h
+      (edit_keeps location old between it r first)
+      (edits_keep location between new edits replies rest)
+  edits_keep location old new [] (r ∷ replies) h = absurd h
+  edits_keep location old new (it ∷ edits) [] h = absurd h
 
   pub ensured_keeps : (prefix : Path) (old new : State S) → OfTrees (model.objects old.store) (λ trees. IsEnsured trees old prefix new)
       → model.objects new.store ≡ model.objects old.store
@@ -144,61 +145,62 @@ module _ {S E : Type 0} (model : StoreModel S) (answers : Answers E) where
     unchanged : (old new : State S) → new ≡ old → SameFiles (EditorFiles T n new) (EditorFiles T n old)
     unchanged old new same = subst (λ (s : State S). SameFiles (EditorFiles T n s) (EditorFiles T n old)) (sym same) (same_files_refl (EditorFiles T n old))
 
-    written_files : (place : Place) (old new : State S) (it : Written) → IsWrittenAt answers place it old new → AgreesWithPairs T it.trees.items
+    written_files : (location : Location) (old new : State S) (it : Written) → IsWrittenAt answers location it old new → AgreesWithPairs T it.trees.items
         → HasBases T (open_dirs old) (open_bases old) → SameFiles (EditorFiles T n new) (EditorFiles T n old)
     written_files at_root old new it h agrees has = h.same_files T n agrees has
     written_files (at_cursor prefix) old new it h agrees has = h.same_files T n agrees has
 
-    write_files : (place : Place) (old new : State S) (it : Written) (Keeps : Objects → Objects → Type 0)
-        → IsWriteKept model (IsWrittenAt answers place it old) Keeps old new → AgreesWithPairs T it.trees.items
+    write_files : (location : Location) (old new : State S) (it : Written) (Keeps : Objects → Objects → Type 0)
+        → IsWriteKept model (IsWrittenAt answers location it old) Keeps old new → AgreesWithPairs T it.trees.items
         → HasBases T (open_dirs old) (open_bases old)
         → SameFiles (EditorFiles T n new) (EditorFiles T n old)
-    write_files place old new it Keeps h agrees has = subst (λ (s : State S). SameFiles (EditorFiles T n s) (EditorFiles T n old)) (sym h.rest)
-        (written_files place old h.between it h.written agrees has)
+    write_files location old new it Keeps h agrees has = subst (λ (s : State S). SameFiles (EditorFiles T n s) (EditorFiles T n old)) (sym h.rest)
+        (written_files location old h.between it h.written agrees has)
 
     -- the table has the bases after each command
     unmoved : (old new : State S) → new ≡ old → HasBases T (open_dirs old) (open_bases old) → HasBases T (open_dirs new) (open_bases new)
     unmoved old new same has = subst (λ (s : State S). HasBases T (open_dirs s) (open_bases s)) (sym same) has
 
-    written_based : (place : Place) (old new : State S) (it : Written) → IsWrittenAt answers place it old new
+    written_based : (location : Location) (old new : State S) (it : Written) → IsWrittenAt answers location it old new
         → HasBases T (open_dirs old) (open_bases old)
         → HasBases T (open_dirs new) (open_bases new)
     written_based at_root old new it h has = h.has_bases T
     written_based (at_cursor prefix) old new it h has = h.has_bases T has
 
-    write_based : (place : Place) (old new : State S) (it : Written) (Keeps : Objects → Objects → Type 0)
-        → IsWriteKept model (IsWrittenAt answers place it old) Keeps old new → HasBases T (open_dirs old) (open_bases old)
+    write_based : (location : Location) (old new : State S) (it : Written) (Keeps : Objects → Objects → Type 0)
+        → IsWriteKept model (IsWrittenAt answers location it old) Keeps old new → HasBases T (open_dirs old) (open_bases old)
         → HasBases T (open_dirs new) (open_bases new)
-    write_based place old new it Keeps h has = subst (λ (s : State S). HasBases T (open_dirs s) (open_bases s)) (sym h.rest)
-        (written_based place old h.between it h.written has)
+    write_based location old new it Keeps h has = subst (λ (s : State S). HasBases T (open_dirs s) (open_bases s)) (sym h.rest)
+        (written_based location old h.between it h.written has)
 
-    edit_based : (place : Place) (old new : State S) (it : Edit) (its_reply : EditReply E) → IsEditReply model answers place old it its_reply new
+    edit_based : (location : Location) (old new : State S) (it : Edit) (its_reply : EditReply E) → IsEditReply model answers location old it its_reply new
         → AgreesWithObjects T (model.objects old.store) → HasBases T (open_dirs old) (open_bases old) → HasBases T (open_dirs new) (open_bases new)
-    edit_based place old new (edit.Upsert path kind id) edit_reply.Done h agrees has = let it = agreed old _ agrees h in it.2.has_bases T it.1 has
-    edit_based place old new (edit.Upsert path kind id) (edit_reply.Refused error) h agrees has = let it =
+    edit_based location old new (edit.Upsert path kind id) edit_reply.Done h agrees has = let it = agreed old _ agrees h in it.2.has_bases T it.1 has
+    edit_based location old new (edit.Upsert path kind id) (edit_reply.Refused error) h agrees has = let it =
         agreed old _ agrees h.0.effect in it.2.has_bases T it.1 has
-    edit_based place old new (edit.Remove path) edit_reply.Done h agrees has = let it = agreed old _ agrees h in it.2.has_bases T it.1 has
-    edit_based place old new (edit.Remove path) (edit_reply.Refused error) h agrees has = let it =
+    edit_based location old new (edit.Remove path) edit_reply.Done h agrees has = let it = agreed old _ agrees h in it.2.has_bases T it.1 has
+    edit_based location old new (edit.Remove path) (edit_reply.Refused error) h agrees has = let it =
         agreed old _ agrees h.effect in it.2.has_bases T it.1 has
-    edit_based place old new (edit.RemoveLeaf path) edit_reply.Done h agrees has = let it = agreed old _ agrees h in it.2.removed.has_bases T it.1 has
-    edit_based place old new (edit.RemoveLeaf path) (edit_reply.Refused error) h agrees has = let it =
+    edit_based location old new (edit.RemoveLeaf path) edit_reply.Done h agrees has = let it = agreed old _ agrees h in it.2.removed.has_bases T it.1 has
+    edit_based location old new (edit.RemoveLeaf path) (edit_reply.Refused error) h agrees has = let it =
         agreed old _ agrees h.effect in it.2.has_bases T it.1 has
-    edit_based place old new edit.Write (edit_reply.Written written) h agrees has = write_based place old new written _ h has
-    edit_based place old new edit.Write (edit_reply.NotKept written count error) h agrees has = write_based place old new written _ h has
-    edit_based place old new edit.Write (edit_reply.WriteRefused error) h agrees has = unmoved old new h.unchanged has
-    edit_based place old new it its_reply h agrees has = absurd h
+    edit_based location old new edit.Write (edit_reply.Written written) h agrees has = write_based location old new written _ h has
+    edit_based location old new edit.Write (edit_reply.NotKept written count error) h agrees has = write_based location old new written _ h has
+    edit_based location old new edit.Write (edit_reply.WriteRefused error) h agrees has = unmoved old new h.unchanged has
+    edit_based location old new it its_reply h agrees has = absurd h
 
-    edits_based : (place : Place) (old new : State S) (edits : List Edit) (replies : List (EditReply E))
-        → AreEditReplies model answers place old edits replies new
+    edits_based : (location : Location) (old new : State S) (edits : List Edit) (replies : List (EditReply E))
+        → AreEditReplies model answers location old edits replies new
         → AgreesThroughout T (flat_map kept_of_edit replies) (model.objects old.store) → HasBases T (open_dirs old) (open_bases old)
         → HasBases T (open_dirs new) (open_bases new)
-    edits_based place old new [] [] h agrees has = unmoved old new h has
-    edits_based place old new (it ∷ edits) (r ∷ replies) (between, first, rest) agrees has =
-        edits_based place between new edits replies rest (agrees_throughout_suffix T (kept_of_edit r) (flat_map kept_of_edit replies) (model.objects old.store)
-        (model.objects between.store) (edit_keeps place old between it r first) agrees)
-        (edit_based place old between it r first (agrees zero) has)
-    edits_based place old new [] (r ∷ replies) h agrees has = absurd h
-    edits_based place old new (it ∷ edits) [] h agrees has = absurd h
+    edits_based location old new [] [] h agrees has = unmoved old new h has
+    edits_based location old new (it ∷ edits) (r ∷ replies) (between, first, rest) agrees has =
+        edits_based location between new edits replies rest (agrees_throughout_suffix T (kept_of_edit r) (flat_map kept_of_edit replies)
+        (model.objects old.store)
+        (model.objects between.store) (edit_keeps location old between it r first) agrees)
+        (edit_based location old between it r first (agrees zero) has)
+    edits_based location old new [] (r ∷ replies) h agrees has = absurd h
+    edits_based location old new (it ∷ edits) [] h agrees has = absurd h
 
     at_based : (prefix : Path) (old new : State S) (edits : List Edit) (its_reply : Reply E) → IsReplyAt model answers prefix old edits its_reply new
         → AgreesThroughout T (kept_of its_reply) (model.objects old.store) → HasBases T (open_dirs old) (open_bases old)
@@ -223,40 +225,40 @@ module _ {S E : Type 0} (model : StoreModel S) (answers : Answers E) where
     command_based old new (command.SetRoot entries) reply.RootRefused h agrees has = unmoved old new h.1 has
     command_based old new it its_reply h agrees has = absurd h
 
-    edit_files : (place : Place) (old new : State S) (it : Edit) (its_reply : EditReply E) → IsEditReply model answers place old it its_reply new
+    edit_files : (location : Location) (old new : State S) (it : Edit) (its_reply : EditReply E) → IsEditReply model answers location old it its_reply new
         → AgreesWithObjects T (model.objects old.store) → AgreesWithPairs T (pairs_of_edit its_reply) → HasBases T (open_dirs old) (open_bases old)
-        → SameFiles (EditorFiles T n new) (FilesAfter T n (steps_of_edit place it its_reply) (EditorFiles T n old))
-    edit_files place old new (edit.Upsert path kind id) edit_reply.Done h agrees pairs has = let it = agreed old _ agrees h in it.2.files T n it.1
-    edit_files place old new (edit.Upsert path kind id) (edit_reply.Refused error) h agrees pairs has = let it =
+        → SameFiles (EditorFiles T n new) (FilesAfter T n (steps_of_edit location it its_reply) (EditorFiles T n old))
+    edit_files location old new (edit.Upsert path kind id) edit_reply.Done h agrees pairs has = let it = agreed old _ agrees h in it.2.files T n it.1
+    edit_files location old new (edit.Upsert path kind id) (edit_reply.Refused error) h agrees pairs has = let it =
         agreed old _ agrees h.0.effect in it.2.files T n it.1
-    edit_files place old new (edit.Remove path) edit_reply.Done h agrees pairs has = let it = agreed old _ agrees h in it.2.files T n it.1
-    edit_files place old new (edit.Remove path) (edit_reply.Refused error) h agrees pairs has = let it =
+    edit_files location old new (edit.Remove path) edit_reply.Done h agrees pairs has = let it = agreed old _ agrees h in it.2.files T n it.1
+    edit_files location old new (edit.Remove path) (edit_reply.Refused error) h agrees pairs has = let it =
         agreed old _ agrees h.effect in it.2.files T n it.1
-    edit_files place old new (edit.RemoveLeaf path) edit_reply.Done h agrees pairs has = let it = agreed old _ agrees h in it.2.removed.files T n it.1
-    edit_files place old new (edit.RemoveLeaf path) (edit_reply.Refused error) h agrees pairs has = let it =
+    edit_files location old new (edit.RemoveLeaf path) edit_reply.Done h agrees pairs has = let it = agreed old _ agrees h in it.2.removed.files T n it.1
+    edit_files location old new (edit.RemoveLeaf path) (edit_reply.Refused error) h agrees pairs has = let it =
         agreed old _ agrees h.effect in it.2.files T n it.1
-    edit_files place old new edit.Write (edit_reply.Written written) h agrees pairs has = write_files place old new written _ h pairs has
-    edit_files place old new edit.Write (edit_reply.NotKept written count error) h agrees pairs has = write_files place old new written _ h pairs has
-    edit_files place old new edit.Write (edit_reply.WriteRefused error) h agrees pairs has = unchanged old new h.unchanged
-    edit_files place old new it its_reply h agrees pairs has = absurd h
+    edit_files location old new edit.Write (edit_reply.Written written) h agrees pairs has = write_files location old new written _ h pairs has
+    edit_files location old new edit.Write (edit_reply.NotKept written count error) h agrees pairs has = write_files location old new written _ h pairs has
+    edit_files location old new edit.Write (edit_reply.WriteRefused error) h agrees pairs has = unchanged old new h.unchanged
+    edit_files location old new it its_reply h agrees pairs has = absurd h
 
-    edits_files : (place : Place) (old new : State S) (edits : List Edit) (replies : List (EditReply E))
-        → AreEditReplies model answers place old edits replies new
+    edits_files : (location : Location) (old new : State S) (edits : List Edit) (replies : List (EditReply E))
+        → AreEditReplies model answers location old edits replies new
         → AgreesThroughout T (flat_map kept_of_edit replies) (model.objects old.store) → AgreesWithPairs T (flat_map pairs_of_edit replies)
         → HasBases T (open_dirs old) (open_bases old)
-        → SameFiles (EditorFiles T n new) (FilesAfter T n (steps_of_edits place edits replies) (EditorFiles T n old))
-    edits_files place old new [] [] h agrees pairs has = unchanged old new h
-    edits_files place old new (it ∷ edits) (r ∷ replies) (between, first, rest) agrees pairs has =
-        let kept = edit_keeps place old between it r first in
-        history_append_same_files T n (steps_of_edit place it r) (steps_of_edits place edits replies) (EditorFiles T n old) (EditorFiles T n between)
+        → SameFiles (EditorFiles T n new) (FilesAfter T n (steps_of_edits location edits replies) (EditorFiles T n old))
+    edits_files location old new [] [] h agrees pairs has = unchanged old new h
+    edits_files location old new (it ∷ edits) (r ∷ replies) (between, first, rest) agrees pairs has =
+        let kept = edit_keeps location old between it r first in
+        history_append_same_files T n (steps_of_edit location it r) (steps_of_edits location edits replies) (EditorFiles T n old) (EditorFiles T n between)
         (EditorFiles T n new)
-        (edit_files place old between it r first (agrees zero) (agrees_with_prefix T (pairs_of_edit r) (flat_map pairs_of_edit replies) pairs) has)
-        (edits_files place between new edits replies rest
+        (edit_files location old between it r first (agrees zero) (agrees_with_prefix T (pairs_of_edit r) (flat_map pairs_of_edit replies) pairs) has)
+        (edits_files location between new edits replies rest
         (agrees_throughout_suffix T (kept_of_edit r) (flat_map kept_of_edit replies) (model.objects old.store)
         (model.objects between.store) kept agrees)
-        (agrees_with_suffix T (pairs_of_edit r) (flat_map pairs_of_edit replies) pairs) (edit_based place old between it r first (agrees zero) has))
-    edits_files place old new [] (r ∷ replies) h agrees pairs has = absurd h
-    edits_files place old new (it ∷ edits) [] h agrees pairs has = absurd h
+        (agrees_with_suffix T (pairs_of_edit r) (flat_map pairs_of_edit replies) pairs) (edit_based location old between it r first (agrees zero) has))
+    edits_files location old new [] (r ∷ replies) h agrees pairs has = absurd h
+    edits_files location old new (it ∷ edits) [] h agrees pairs has = absurd h
 
     at_files : (prefix : Path) (old new : State S) (edits : List Edit) (its_reply : Reply E) → IsReplyAt model answers prefix old edits its_reply new
         → AgreesThroughout T (kept_of its_reply) (model.objects old.store) → AgreesWithPairs T (pairs_of its_reply)

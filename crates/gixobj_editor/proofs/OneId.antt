@@ -29,7 +29,7 @@ use Rattle.gixobj_editor.proofs.Keeping.{AgreesThroughout, agrees_throughout_pre
 use Rattle.gixobj_editor.proofs.Named.{agrees_with_run_prefix, agrees_later, agrees_with_written_pairs, ensured_keeps, command_keeps, edit_keeps, names_history}
 use Rattle.gixobj_editor.proofs.Reported.{mode_of_kind_not_tree, plain_history_of_prefix, known_by_trees, is_up_to_of_same_files}
 use Rattle.gixobj_editor.proofs.PlainRuns.{AreBuilt, IsPlainState, Within, plain_ensured, plain_below, plain_failed, plain_removed, plain_root, plain_upserted}
-use Rattle.gixobj_editor.specs.Commands.{Place, at_cursor, at_root, kept_of, kept_of_edit, emitted_pairs, kept_pairs, pairs_of, pairs_of_edit, written_at, written_by}
+use Rattle.gixobj_editor.specs.Commands.{Location, at_cursor, at_root, kept_of, kept_of_edit, emitted_pairs, kept_pairs, pairs_of, pairs_of_edit, written_at, written_by}
 use Rattle.gixobj_editor.specs.PlainRuns.{IdsDetermineFiles, IsPlainRun, NamesNoTree, InsertsNoTree, files_before}
 use Rattle.gixobj_editor.specs.Replies.{Answers, AreEditReplies, ReturnsTreeId, IsEditReply, IsReply, IsReplyAt, IsRun, IsWriteKept, IsWrittenAt}
 use Rattle.gixobj_editor.specs.RunTables.{AgreesWithObjects, AgreesWithRun}
@@ -52,56 +52,56 @@ module _ {S E : Type 0} (model : StoreModel S) (answers : Answers E) (T : Table)
   same_state : (old new : State S) → new ≡ old → Holds old → Holds new
   same_state old new same holds = subst (λ (s : State S). Holds s) (sym same) holds
 
-  written_plain : (place : Place) (old new : State S) (it : Written) → IsWrittenAt answers place it old new → Holds old
+  written_plain : (location : Location) (old new : State S) (it : Written) → IsWrittenAt answers location it old new → Holds old
       → Within T pairs known it.trees.items
       → Holds new × AreBuilt T pairs known it.trees.items
   written_plain at_root old new it h holds within = plain_root T pairs known (ReturnsTreeId answers) tt tt old new it holds h within
   written_plain (at_cursor prefix) old new it h holds within =
       plain_below T pairs known (ReturnsTreeId answers) tt tt old new prefix it holds h within
 
-  write_plain : (place : Place) (old new : State S) (it : Written) (Keeps : Objects → Objects → Type 0)
-      → IsWriteKept model (IsWrittenAt answers place it old) Keeps old new → Holds old → Within T pairs known it.trees.items → Holds new
+  write_plain : (location : Location) (old new : State S) (it : Written) (Keeps : Objects → Objects → Type 0)
+      → IsWriteKept model (IsWrittenAt answers location it old) Keeps old new → Holds old → Within T pairs known it.trees.items → Holds new
       × AreBuilt T pairs known it.trees.items
-  write_plain place old new it Keeps h holds within = let so = written_plain place old h.between it h.written holds within in
+  write_plain location old new it Keeps h holds within = let so = written_plain location old h.between it h.written holds within in
       (subst (λ (s : State S). Holds s) (sym h.rest) so.0, so.1)
 
-  edit_plain : (place : Place) (old new : State S) (it : Edit) (its_reply : EditReply E) → InsertsNoTree it
-      → IsEditReply model answers place old it its_reply new → AgreesWithObjects T (model.objects old.store) → Holds old
+  edit_plain : (location : Location) (old new : State S) (it : Edit) (its_reply : EditReply E) → InsertsNoTree it
+      → IsEditReply model answers location old it its_reply new → AgreesWithObjects T (model.objects old.store) → Holds old
       → Within T pairs known (pairs_of_edit its_reply)
       → Holds new × AreBuilt T pairs known (pairs_of_edit its_reply)
-  edit_plain place old new (edit.Upsert path k id) edit_reply.Done other h agrees holds within = let it =
+  edit_plain location old new (edit.Upsert path k id) edit_reply.Done other h agrees holds within = let it =
       agreed old _ agrees h in (plain_upserted T pairs known it.0 it.1 old new holds _ _ _ (mode_of_kind_not_tree k other) it.2, tt)
-  edit_plain place old new (edit.Upsert path k id) (edit_reply.Refused error) other h agrees holds within = let it =
+  edit_plain location old new (edit.Upsert path k id) (edit_reply.Refused error) other h agrees holds within = let it =
       agreed old _ agrees h.0.effect in (plain_failed T pairs known it.0 it.1 old new holds model _ error it.2, tt)
-  edit_plain place old new (edit.Remove path) edit_reply.Done other h agrees holds within = let it =
+  edit_plain location old new (edit.Remove path) edit_reply.Done other h agrees holds within = let it =
       agreed old _ agrees h in (plain_removed T pairs known it.0 it.1 old new holds _ it.2, tt)
-  edit_plain place old new (edit.Remove path) (edit_reply.Refused error) other h agrees holds within = let it =
+  edit_plain location old new (edit.Remove path) (edit_reply.Refused error) other h agrees holds within = let it =
       agreed old _ agrees h.effect in (plain_failed T pairs known it.0 it.1 old new holds model _ error it.2, tt)
-  edit_plain place old new (edit.RemoveLeaf path) edit_reply.Done other h agrees holds within = let it =
+  edit_plain location old new (edit.RemoveLeaf path) edit_reply.Done other h agrees holds within = let it =
       agreed old _ agrees h in (plain_removed T pairs known it.0 it.1 old new holds _ it.2.removed, tt)
-  edit_plain place old new (edit.RemoveLeaf path) (edit_reply.Refused error) other h agrees holds within = let it =
+  edit_plain location old new (edit.RemoveLeaf path) (edit_reply.Refused error) other h agrees holds within = let it =
       agreed old _ agrees h.effect in (plain_failed T pairs known it.0 it.1 old new holds model _ error it.2, tt)
-  edit_plain place old new edit.Write (edit_reply.Written written) other h agrees holds within = write_plain place old new written _ h holds within
-  edit_plain place old new edit.Write (edit_reply.NotKept written count error) other h agrees holds within =
-      write_plain place old new written _ h holds within
-  edit_plain place old new edit.Write (edit_reply.WriteRefused error) other h agrees holds within = (same_state old new h.unchanged holds, tt)
-  edit_plain place old new it its_reply other h agrees holds within = absurd h
+  edit_plain location old new edit.Write (edit_reply.Written written) other h agrees holds within = write_plain location old new written _ h holds within
+  edit_plain location old new edit.Write (edit_reply.NotKept written count error) other h agrees holds within =
+      write_plain location old new written _ h holds within
+  edit_plain location old new edit.Write (edit_reply.WriteRefused error) other h agrees holds within = (same_state old new h.unchanged holds, tt)
+  edit_plain location old new it its_reply other h agrees holds within = absurd h
 
-  edits_plain : (place : Place) (old new : State S) (edits : List Edit) (replies : List (EditReply E)) → AllByRecursion InsertsNoTree edits
-      → AreEditReplies model answers place old edits replies new → AgreesThroughout T (flat_map kept_of_edit replies) (model.objects old.store)
+  edits_plain : (location : Location) (old new : State S) (edits : List Edit) (replies : List (EditReply E)) → AllByRecursion InsertsNoTree edits
+      → AreEditReplies model answers location old edits replies new → AgreesThroughout T (flat_map kept_of_edit replies) (model.objects old.store)
       → Holds old
       → Within T pairs known (flat_map pairs_of_edit replies) → Holds new × AreBuilt T pairs known (flat_map pairs_of_edit replies)
-  edits_plain place old new [] [] other h agrees holds within = (same_state old new h holds, tt)
-  edits_plain place old new (it ∷ edits) (r ∷ replies) other (between, first, rest) agrees holds within =
-      let one = edit_plain place old between it r other.0 first (agrees zero) holds
+  edits_plain location old new [] [] other h agrees holds within = (same_state old new h holds, tt)
+  edits_plain location old new (it ∷ edits) (r ∷ replies) other (between, first, rest) agrees holds within =
+      let one = edit_plain location old between it r other.0 first (agrees zero) holds
       (all_remaining (λ pair. Contains pairs pair) (pairs_of_edit r) (flat_map pairs_of_edit replies) within) in
-      let more = edits_plain place between new edits replies other.1 rest
+      let more = edits_plain location between new edits replies other.1 rest
       (agrees_throughout_suffix T (kept_of_edit r) (flat_map kept_of_edit replies) (model.objects old.store) (model.objects between.store)
-      (edit_keeps model answers place old between it r first) agrees) one.0
+      (edit_keeps model answers location old between it r first) agrees) one.0
       (all_right (λ pair. Contains pairs pair) (pairs_of_edit r) (flat_map pairs_of_edit replies) within) in
       (more.0, all_joined (HasBuilt pairs) (pairs_of_edit r) (flat_map pairs_of_edit replies) one.1 more.1)
-  edits_plain place old new [] (r ∷ replies) other h agrees holds within = absurd h
-  edits_plain place old new (it ∷ edits) [] other h agrees holds within = absurd h
+  edits_plain location old new [] (r ∷ replies) other h agrees holds within = absurd h
+  edits_plain location old new (it ∷ edits) [] other h agrees holds within = absurd h
 
   at_plain : (prefix : Path) (old new : State S) (edits : List Edit) (its_reply : Reply E) → AllByRecursion InsertsNoTree edits
       → IsReplyAt model answers prefix old edits its_reply new → AgreesThroughout T (kept_of its_reply) (model.objects old.store) → Holds old
@@ -164,45 +164,51 @@ module _ {S E : Type 0} (model : StoreModel S) (answers : Answers E) (T : Table)
 
 module _ {S E : Type 0} (model : StoreModel S) (answers : Answers E) where
   -- the own pair of a successful write is its last emitted pair
-  abbrev OwnPair : List Pair → Written → Type 0
-  OwnPair ps written = (own : List EntryView) × Contains ps (written.id, own)
+  abbrev HasWrittenPair : List Pair → Written → Type 0
+  HasWrittenPair ps written = (written_tree : List EntryView) × Contains ps (written.id, written_tree)
 
-  own_last : (ps below : List Pair) (written : Written) (own : List EntryView) → ps ≡ below ++ (written.id, own) ∷ [] → OwnPair ps written
-  own_last ps below written own is = (own, subst (λ (l : List Pair). Contains l (written.id, own)) (sym is) (Contains-push below (written.id, own)))
+  written_pair_is_last : (ps below : List Pair) (written : Written) (written_tree : List EntryView) → ps ≡ below ++ (written.id, written_tree) ∷ []
+      → HasWrittenPair ps written
+  written_pair_is_last ps below written written_tree is = (
+    written_tree,
+    subst (λ (l : List Pair). Contains l (written.id, written_tree)) (sym is)
+        (Contains-push below (written.id, written_tree)),
+  )
 
-  own_as : (w written : Written) (ps : List Pair) → Some w ≡ Some written → OwnPair ps w → OwnPair ps written
-  own_as w written ps is own = let same : w ≡ written = cc is in subst (λ (it : Written). OwnPair ps it) same own
+  has_written_pair_of_append : (w written : Written) (ps : List Pair) → Some w ≡ Some written → HasWrittenPair ps w → HasWrittenPair ps written
+  has_written_pair_of_append w written ps is written_tree = let same : w ≡ written = cc is in subst (λ (it : Written). HasWrittenPair ps it) same written_tree
 
-  edit_own : (old new : State S) (it : Edit) (its_reply : EditReply E) (written : Written) → IsEditReply model answers at_root old it its_reply new
-      → written_by (reply.Edit its_reply) ≡ Some written → OwnPair (pairs_of_edit its_reply) written
-  edit_own old new edit.Write (edit_reply.Written w) written h is =
-      own_as w written w.trees.items is (own_last w.trees.items h.written.below w h.written.own h.written.last)
-  edit_own old new edit.Write (edit_reply.NotKept w count error) written h is =
-      own_as w written w.trees.items is (own_last w.trees.items h.written.below w h.written.own h.written.last)
-  edit_own old new it edit_reply.Done written h is = absurd (cc is)
-  edit_own old new it (edit_reply.Refused error) written h is = absurd (cc is)
-  edit_own old new it (edit_reply.WriteRefused error) written h is = absurd (cc is)
-  edit_own old new it its_reply written h is = absurd h
+  edit_has_written_pair : (old new : State S) (it : Edit) (its_reply : EditReply E) (written : Written) → IsEditReply model answers at_root old it its_reply new
+      → written_by (reply.Edit its_reply) ≡ Some written → HasWrittenPair (pairs_of_edit its_reply) written
+  edit_has_written_pair old new edit.Write (edit_reply.Written w) written h is =
+      has_written_pair_of_append w written w.trees.items is (written_pair_is_last w.trees.items h.written.below w h.written.written_tree h.written.last)
+  edit_has_written_pair old new edit.Write (edit_reply.NotKept w count error) written h is =
+      has_written_pair_of_append w written w.trees.items is (written_pair_is_last w.trees.items h.written.below w h.written.written_tree h.written.last)
+  edit_has_written_pair old new it edit_reply.Done written h is = absurd (cc is)
+  edit_has_written_pair old new it (edit_reply.Refused error) written h is = absurd (cc is)
+  edit_has_written_pair old new it (edit_reply.WriteRefused error) written h is = absurd (cc is)
+  edit_has_written_pair old new it its_reply written h is = absurd h
 
-  reply_own : (old new : State S) (it : Command) (its_reply : Reply E) (written : Written) → IsReply model answers old it its_reply new
-      → written_by its_reply ≡ Some written → OwnPair (pairs_of its_reply) written
-  reply_own old new (command.Edit it) (reply.Edit its_reply) written h is = edit_own old new it its_reply written h is
-  reply_own old new it (reply.At replies) written h is = absurd (cc is)
-  reply_own old new it (reply.AtRefused error) written h is = absurd (cc is)
-  reply_own old new it reply.RootSet written h is = absurd (cc is)
-  reply_own old new it reply.RootRefused written h is = absurd (cc is)
-  reply_own old new it its_reply written h is = absurd h
+  reply_has_written_pair : (old new : State S) (it : Command) (its_reply : Reply E) (written : Written) → IsReply model answers old it its_reply new
+      → written_by its_reply ≡ Some written → HasWrittenPair (pairs_of its_reply) written
+  reply_has_written_pair old new (command.Edit it) (reply.Edit its_reply) written h is = edit_has_written_pair old new it its_reply written h is
+  reply_has_written_pair old new it (reply.At replies) written h is = absurd (cc is)
+  reply_has_written_pair old new it (reply.AtRefused error) written h is = absurd (cc is)
+  reply_has_written_pair old new it reply.RootSet written h is = absurd (cc is)
+  reply_has_written_pair old new it reply.RootRefused written h is = absurd (cc is)
+  reply_has_written_pair old new it its_reply written h is = absurd h
 
-  run_own : (old new : State S) (commands : List Command) (replies : List (Reply E)) → IsRun model answers old commands replies new
-      → (k : ℕ) (written : Written) → written_at replies k ≡ Some written → OwnPair (emitted_pairs replies) written
-  run_own old new [] [] run k written is = absurd (cc is)
-  run_own old new [] (r ∷ replies) run k written is = absurd run
-  run_own old new (c ∷ commands) [] run k written is = absurd run
-  run_own old new (c ∷ commands) (r ∷ replies) (between, first, run) zero written is = let own = reply_own old between c r written first is in
-      (own.0, Contains-append_left (pairs_of r) (emitted_pairs replies) (written.id, own.0) own.1)
-  run_own old new (c ∷ commands) (r ∷ replies) (between, first, run) (suc k) written is = let own =
-      run_own between new commands replies run k written is in
-      (own.0, Contains-append_right (pairs_of r) (emitted_pairs replies) (written.id, own.0) own.1)
+  run_has_written_pair : (old new : State S) (commands : List Command) (replies : List (Reply E)) → IsRun model answers old commands replies new
+      → (k : ℕ) (written : Written) → written_at replies k ≡ Some written → HasWrittenPair (emitted_pairs replies) written
+  run_has_written_pair old new [] [] run k written is = absurd (cc is)
+  run_has_written_pair old new [] (r ∷ replies) run k written is = absurd run
+  run_has_written_pair old new (c ∷ commands) [] run k written is = absurd run
+  run_has_written_pair old new (c ∷ commands) (r ∷ replies) (between, first, run) zero written is = let written_tree =
+      reply_has_written_pair old between c r written first is in
+      (written_tree.0, Contains-append_left (pairs_of r) (emitted_pairs replies) (written.id, written_tree.0) written_tree.1)
+  run_has_written_pair old new (c ∷ commands) (r ∷ replies) (between, first, run) (suc k) written is = let written_tree =
+      run_has_written_pair between new commands replies run k written is in
+      (written_tree.0, Contains-append_right (pairs_of r) (emitted_pairs replies) (written.id, written_tree.0) written_tree.1)
 
   -- a prefix of a run is a run
   run_prefix : (m : ℕ) (old new : State S) (commands : List Command) (replies : List (Reply E)) → IsRun model answers old commands replies new
@@ -234,8 +240,8 @@ module _ {S E : Type 0} (model : StoreModel S) (answers : Answers E) where
       (agrees_with_run_prefix T (model.objects start.store) j replies plain.agrees)
       (agrees_with_written_pairs T replies known j written at_j) has)
       (plain_history_of_prefix T n start j commands replies plain.dirs no_tree) in
-      let mine = run_own start last commands replies run k first at_k in
-      let its = run_own start last commands replies run l second at_l in
+      let mine = run_has_written_pair start last commands replies run k first at_k in
+      let its = run_has_written_pair start last commands replies run l second at_l in
       known_by_trees T pairs known plain.one_id built first.id second.id mine.0 its.0 mine.1 its.1 (files_before k commands replies)
       (files_before l commands replies) (names k first at_k) (names l second at_l)
 

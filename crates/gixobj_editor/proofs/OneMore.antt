@@ -3,7 +3,7 @@ use Rattle.std.proofs.Common.{◌≡◌, ◌∷◌, [], ◌++◌, List, append_a
 use Rattle.gixobj_editor.specs.declared.command.Command.{Command}
 use Rattle.gixobj_editor.specs.declared.command.Edit.{Edit}
 use Rattle.gixobj_files.specs.State.{State}
-use Rattle.gixobj_editor.specs.Commands.{Place}
+use Rattle.gixobj_editor.specs.Commands.{Location}
 use Rattle.gixobj_editor.specs.Replies.{Answers, AreEditReplies, IsEditReply, IsReply, IsRun}
 use Rattle.gixobj_editor.specs.declared.reply.EditReply.{EditReply}
 use Rattle.gixobj_editor.specs.declared.reply.Reply.{Reply}
@@ -28,17 +28,17 @@ module _ {S E : Type 0} (model : StoreModel S) (answers : Answers E) where
       → IsRun model answers first all seen old
   no_more old first all rest seen none entire = rw append-nil at (entire [] old (rw (nil_of_len_zero rest none) refl))
 
-  pub one_more_edit : (place : Place) (old between first new : State S) (edit : Edit) (all rest edits : List Edit) (reply : EditReply E)
+  pub one_more_edit : (location : Location) (old between first new : State S) (edit : Edit) (all rest edits : List Edit) (reply : EditReply E)
       (seen seen' replies : List (EditReply E))
-      → IsEditReply model answers place old edit reply between → rest ≡ edit ∷ edits → seen' ≡ seen ++ reply ∷ []
-      → ((rs : List (EditReply E)) (s : State S) → AreEditReplies model answers place old rest rs s → AreEditReplies model answers place first all
+      → IsEditReply model answers location old edit reply between → rest ≡ edit ∷ edits → seen' ≡ seen ++ reply ∷ []
+      → ((rs : List (EditReply E)) (s : State S) → AreEditReplies model answers location old rest rs s → AreEditReplies model answers location first all
       (seen ++ rs) s)
-      → AreEditReplies model answers place between edits replies new → AreEditReplies model answers place first all (seen' ++ replies) new
-  one_more_edit place old between first new edit all rest edits reply seen seen' replies one is pushed entire later =
+      → AreEditReplies model answers location between edits replies new → AreEditReplies model answers location first all (seen' ++ replies) new
+  one_more_edit location old between first new edit all rest edits reply seen seen' replies one is pushed entire later =
       rw (pushed, append_assoc) (entire (reply ∷ replies) new (rw is (between, one, later)))
 
-  pub no_more_edits : (place : Place) (old first : State S) (all rest : List Edit) (seen : List (EditReply E)) → length rest ≡ 0
-      → ((rs : List (EditReply E)) (s : State S) → AreEditReplies model answers place old rest rs s → AreEditReplies model answers place first all
+  pub no_more_edits : (location : Location) (old first : State S) (all rest : List Edit) (seen : List (EditReply E)) → length rest ≡ 0
+      → ((rs : List (EditReply E)) (s : State S) → AreEditReplies model answers location old rest rs s → AreEditReplies model answers location first all
       (seen ++ rs) s)
-      → AreEditReplies model answers place first all seen old
-  no_more_edits place old first all rest seen none entire = rw append-nil at (entire [] old (rw (nil_of_len_zero rest none) refl))
+      → AreEditReplies model answers location first all seen old
+  no_more_edits location old first all rest seen none entire = rw append-nil at (entire [] old (rw (nil_of_len_zero rest none) refl))

@@ -96,21 +96,23 @@ module _ (trees : Trees) (ds mid : Opened) (first : OpenedSo ds mid) (was : Open
 
 -- the invariant after a write
 pub written_opened_on : {W X : Type 0} (result : Result W X) (ds ds' : Opened)
-    → IfOk result (λ _. (own : List EntryView) × IsStorable own × ((base : List EntryView) × (ds' ≡ opened own base [])))
+    → IfOk result (λ _. (written_tree : List EntryView) × IsStorable written_tree × ((base : List EntryView) × (ds' ≡ opened written_tree base [])))
     → OnErr result (ds' ≡ ds) → OpenedOn ds → OpenedOn ds'
-written_opened_on (Ok it) ds ds' (own, storable, remaining) unchanged was = root_opened_on ds' own remaining.0 remaining.1 storable.well_formed
+written_opened_on (Ok it) ds ds' (written_tree, storable, remaining) unchanged was =
+    root_opened_on ds' written_tree remaining.0 remaining.1 storable.well_formed
 written_opened_on (Err error) ds ds' ok unchanged was = subst OpenedOn (sym unchanged) was
 
 -- the invariant after a write of a directory at a prefix
 abbrev pub IsWrittenSo : Path → Opened → Opened → Type 0
-IsWrittenSo prefix ds ds' = (own : List EntryView) × IsStorable own × ((at : Path) → dirs_of ds' at ≡ with_path prefix (only_open own) (dirs_of ds) at)
+IsWrittenSo prefix ds ds' = (written_tree : List EntryView) × IsStorable written_tree
+    × ((at : Path) → dirs_of ds' at ≡ with_path prefix (only_open written_tree) (dirs_of ds) at)
     × EditedSo ds ds'
 
 pub written_below_opened_on : {W X : Type 0} (result : Result W X) (prefix : Path) (ds ds' : Opened) → IfOk result (λ _. IsWrittenSo prefix ds ds')
     → OnErr result (ds' ≡ ds) → dirs_of ds prefix ≢ None
     → OpenedOn ds → OpenedOn ds'
-written_below_opened_on (Ok it) prefix ds ds' (own, storable, remaining, edited) unchanged there was = record {
-  opened = is_opened_after_write prefix own ds ds' was.opened there storable remaining;
-  null_based = written_null_based (dirs_of ds) (bases_of ds) (dirs_of ds') (bases_of ds') was prefix own there remaining edited;
+written_below_opened_on (Ok it) prefix ds ds' (written_tree, storable, remaining, edited) unchanged there was = record {
+  opened = is_opened_after_write prefix written_tree ds ds' was.opened there storable remaining;
+  null_based = written_null_based (dirs_of ds) (bases_of ds) (dirs_of ds') (bases_of ds') was prefix written_tree there remaining edited;
 }
 written_below_opened_on (Err error) prefix ds ds' ok unchanged there was = subst OpenedOn (sym unchanged) was

@@ -28,34 +28,34 @@ cons_injective_tail : (x y : List ℕ) (xs ys : Path) → x ∷ xs ≡ y ∷ ys 
 cons_injective_tail x y xs ys is = cc is
 
 -- of two splits of one path, the second is within the first part, at the same position, or after it
-pub snoc_prefix_cases : (prefix : Path) (last : List ℕ) (after place : Path) (next : List ℕ) (rest : Path) → prefix ++ last ∷ after ≡ place ++ next ∷ rest
-    → ((more : Path) × (prefix ≡ place ++ next ∷ more)) ⊎ ((prefix ≡ place) × (last ≡ next) × (after ≡ rest))
-    ⊎ ((more : Path) × (place ≡ prefix ++ last ∷ more))
+pub snoc_prefix_cases : (prefix : Path) (last : List ℕ) (after parent : Path) (next : List ℕ) (rest : Path) → prefix ++ last ∷ after ≡ parent ++ next ∷ rest
+    → ((more : Path) × (prefix ≡ parent ++ next ∷ more)) ⊎ ((prefix ≡ parent) × (last ≡ next) × (after ≡ rest))
+    ⊎ ((more : Path) × (parent ≡ prefix ++ last ∷ more))
 snoc_prefix_cases [] last after [] next rest is = inr (inl (refl, cc is, cc is))
-snoc_prefix_cases [] last after (p ∷ place) next rest is = inr (inr (
-  place,
-  ap (λ x. x ∷ place)
-      (cons_injective_head p last (place ++ next ∷ rest) after (sym is)),
+snoc_prefix_cases [] last after (p ∷ parent) next rest is = inr (inr (
+  parent,
+  ap (λ x. x ∷ parent)
+      (cons_injective_head p last (parent ++ next ∷ rest) after (sym is)),
 ))
 snoc_prefix_cases (f ∷ prefix) last after [] next rest is = inl (prefix, ap (λ x. x ∷ prefix) (cons_injective_head f next (prefix ++ last ∷ after) rest is))
-snoc_prefix_cases (f ∷ prefix) last after (p ∷ place) next rest is =
-    let same = cons_injective_head f p (prefix ++ last ∷ after) (place ++ next ∷ rest) is in
-    elim (snoc_prefix_cases prefix last after place next rest (cons_injective_tail f p (prefix ++ last ∷ after) (place ++ next ∷ rest) is)) [
+snoc_prefix_cases (f ∷ prefix) last after (p ∷ parent) next rest is =
+    let same = cons_injective_head f p (prefix ++ last ∷ after) (parent ++ next ∷ rest) is in
+    elim (snoc_prefix_cases prefix last after parent next rest (cons_injective_tail f p (prefix ++ last ∷ after) (parent ++ next ∷ rest) is)) [
       | inl within ↦ inl (within.0, ap (λ x. x ∷ prefix) same ∙ ap (λ q. p ∷ q) within.1)
       | inr (inl at) ↦ inr (inl (ap (λ x. x ∷ prefix) same ∙ ap (λ q. p ∷ q) at.0, at.1, at.2))
-      | inr (inr after_it) ↦ inr (inr (after_it.0, ap (λ x. x ∷ place) (sym same) ∙ ap (λ q. f ∷ q) after_it.1))
+      | inr (inr after_it) ↦ inr (inr (after_it.0, ap (λ x. x ∷ parent) (sym same) ∙ ap (λ q. f ∷ q) after_it.1))
     ]
 
 -- what is above a path is a prefix of the path's directory
-pub prefix_extends : (prefix : Path) (last : List ℕ) (place : Path) (next : List ℕ) (rest : Path) → prefix ++ last ∷ [] ≡ place ++ next ∷ rest → (more : Path)
-    × (prefix ≡ place ++ more)
-prefix_extends prefix last place next rest is =
-    elim (snoc_prefix_cases prefix last [] place next rest is) [
+pub prefix_extends : (prefix : Path) (last : List ℕ) (parent : Path) (next : List ℕ) (rest : Path) → prefix ++ last ∷ [] ≡ parent ++ next ∷ rest → (more : Path)
+    × (prefix ≡ parent ++ more)
+prefix_extends prefix last parent next rest is =
+    elim (snoc_prefix_cases prefix last [] parent next rest is) [
       | inl within ↦ (next ∷ within.0, within.1)
-      | inr (inl at) ↦ ([], at.0 ∙ sym (append-nil place))
+      | inr (inl at) ↦ ([], at.0 ∙ sym (append-nil parent))
       | inr (inr after_it) ↦ absurd (
-          let total : length (prefix ++ last ∷ []) ≡ length (place ++ next ∷ rest) = ap length is in
-          let longer : length place ≡ length (prefix ++ last ∷ after_it.0) = ap length after_it.1 in
-          omega (arith, total, longer, length-append prefix (last ∷ []), length-append place (next ∷ rest), length-append prefix (last ∷ after_it.0))
+          let total : length (prefix ++ last ∷ []) ≡ length (parent ++ next ∷ rest) = ap length is in
+          let longer : length parent ≡ length (prefix ++ last ∷ after_it.0) = ap length after_it.1 in
+          omega (arith, total, longer, length-append prefix (last ∷ []), length-append parent (next ∷ rest), length-append prefix (last ∷ after_it.0))
           )
     ]

@@ -50,18 +50,19 @@ is_clean_of_is_storable entries storable =
     each (x ∷ es) all e (inr h) = each es all.1 e h
 
 -- the last trees of two equal lists of pairs are equal
-last_tree_unique : (head back : List Pair) (x y : ObjectId) (own other : List EntryView) → head ++ (x, own) ∷ [] ≡ back ++ (y, other) ∷ [] → own ≡ other
-last_tree_unique [] [] x y own other is = let same : ◌≡◌ {A = Pair} (x, own) (y, other) = cc is in ap (λ (p : Pair). p.1) same
-last_tree_unique [] (b ∷ []) x y own other is = absurd (cc is)
-last_tree_unique [] (b ∷ c ∷ back) x y own other is = absurd (cc is)
-last_tree_unique (a ∷ []) [] x y own other is = absurd (cc is)
-last_tree_unique (a ∷ c ∷ head) [] x y own other is = absurd (cc is)
-last_tree_unique (a ∷ head) (b ∷ back) x y own other is = last_tree_unique head back x y own other (cc is)
+last_tree_unique : (head back : List Pair) (x y : ObjectId) (written_tree other : List EntryView) → head ++ (x, written_tree) ∷ [] ≡ back ++ (y, other) ∷ []
+    → written_tree ≡ other
+last_tree_unique [] [] x y written_tree other is = let same : ◌≡◌ {A = Pair} (x, written_tree) (y, other) = cc is in ap (λ (p : Pair). p.1) same
+last_tree_unique [] (b ∷ []) x y written_tree other is = absurd (cc is)
+last_tree_unique [] (b ∷ c ∷ back) x y written_tree other is = absurd (cc is)
+last_tree_unique (a ∷ []) [] x y written_tree other is = absurd (cc is)
+last_tree_unique (a ∷ c ∷ head) [] x y written_tree other is = absurd (cc is)
+last_tree_unique (a ∷ head) (b ∷ back) x y written_tree other is = last_tree_unique head back x y written_tree other (cc is)
 
 -- a directory that emits is open
-prefix_open_of_emits_below : (prefix : Path) (dirs bases : Dirs) (below : List Pair) (own : List EntryView) (saved : ℕ)
-    → EmitsBelow (in_path prefix dirs) (in_path prefix bases) below own saved → dirs prefix ≢ None
-prefix_open_of_emits_below prefix dirs bases below own saved (of_entries d b entries ps os n is walk) none = let bad : Some entries ≡ None = sym is
+prefix_open_of_emits_below : (prefix : Path) (dirs bases : Dirs) (below : List Pair) (written_tree : List EntryView) (saved : ℕ)
+    → EmitsBelow (in_path prefix dirs) (in_path prefix bases) below written_tree saved → dirs prefix ≢ None
+prefix_open_of_emits_below prefix dirs bases below written_tree saved (of_entries d b entries ps os n is walk) none = let bad : Some entries ≡ None = sym is
     ∙ ap dirs (append-nil prefix)
     ∙ none in cc bad
 
@@ -155,48 +156,50 @@ module _ (T : Table) (pairs : List Pair) (known : AgreesWithPairs T pairs) where
   goes_out [] within storable = tt
   goes_out (pair ∷ ps) within storable = ((within.0, is_clean_of_is_storable pair.1 storable.0), goes_out ps within.1 storable.1)
 
-  went : {S : Type 0} (old new : State S) (prefix : Path) (below : List Pair) (id : ObjectId) (own : List EntryView) (saved : ℕ) → IsPlainState old
-      → EmitsBelow (in_path prefix (open_dirs old)) (in_path prefix (open_bases old)) below own saved
-      → Within (below ++ (id, own) ∷ []) → AllByRecursion (λ pair. IsStorable pair.1) (below ++ (id, own) ∷ [])
-      → ((at : Path) → open_dirs new at ≡ with_path prefix (only_open own) (open_dirs old) at)
+  is_plain_after_write : {S : Type 0} (old new : State S) (prefix : Path) (below : List Pair) (id : ObjectId) (written_tree : List EntryView) (saved : ℕ)
+      → IsPlainState old
+      → EmitsBelow (in_path prefix (open_dirs old)) (in_path prefix (open_bases old)) below written_tree saved
+      → Within (below ++ (id, written_tree) ∷ []) → AllByRecursion (λ pair. IsStorable pair.1) (below ++ (id, written_tree) ∷ [])
+      → ((at : Path) → open_dirs new at ≡ with_path prefix (only_open written_tree) (open_dirs old) at)
       → ((at : Path) → open_bases new at ≡ edited_bases (open_dirs old) (open_dirs new) (open_bases old) at)
-      → Everywhere (Plain pairs) (open_dirs new) (open_bases new) × AreBuilt (below ++ (id, own) ∷ [])
-  went old new prefix below id own saved holds going within storable dirs_are bases_are =
-      let out = goes_out (below ++ (id, own) ∷ []) within storable in
-      let mine = all_right (IsEmitted pairs) below ((id, own) ∷ []) out in
-      let it = emits_below_plain pairs (in_path prefix (open_dirs old)) (in_path prefix (open_bases old)) below own saved going
-      (everywhere_in_path (Plain pairs) prefix (open_dirs old) (open_bases old) holds.1) (all_remaining (IsEmitted pairs) below ((id, own) ∷ []) out) in
-      let made : Dirs = with_path prefix (only_open own) (open_dirs old) in (
+      → Everywhere (Plain pairs) (open_dirs new) (open_bases new) × AreBuilt (below ++ (id, written_tree) ∷ [])
+  is_plain_after_write old new prefix below id written_tree saved holds going within storable dirs_are bases_are =
+      let out = goes_out (below ++ (id, written_tree) ∷ []) within storable in
+      let mine = all_right (IsEmitted pairs) below ((id, written_tree) ∷ []) out in
+      let it = emits_below_plain pairs (in_path prefix (open_dirs old)) (in_path prefix (open_bases old)) below written_tree saved going
+      (everywhere_in_path (Plain pairs) prefix (open_dirs old) (open_bases old) holds.1)
+      (all_remaining (IsEmitted pairs) below ((id, written_tree) ∷ []) out) in
+      let made : Dirs = with_path prefix (only_open written_tree) (open_dirs old) in (
         carried made (edited_bases (open_dirs old) made (open_bases old)) (open_dirs new) (open_bases new) dirs_are
             (subst (λ (d : Dirs). (at : Path) → open_bases new at ≡ edited_bases (open_dirs old) d (open_bases old) at) (λ i at. dirs_are at i) bases_are)
             (everywhere_written (Plain pairs) no_trees (null_id old.object_hash)
-            (plain_lasts T pairs known no_trees (null_id old.object_hash) (λ it entries searched is. absurd (cc is))) prefix own (open_dirs old)
-            (open_bases old) (prefix_open_of_emits_below prefix (open_dirs old) (open_bases old) below own saved going)
-            (is_plain_of_rests_on pairs own it.0) holds.1),
-        all_joined (HasBuilt pairs) below ((id, own) ∷ []) it.1 (is_built_of_rests_on pairs own (mine.0.1) it.0, tt),
+            (plain_lasts T pairs known no_trees (null_id old.object_hash) (λ it entries searched is. absurd (cc is))) prefix written_tree (open_dirs old)
+            (open_bases old) (prefix_open_of_emits_below prefix (open_dirs old) (open_bases old) below written_tree saved going)
+            (is_plain_of_rests_on pairs written_tree it.0) holds.1),
+        all_joined (HasBuilt pairs) below ((id, written_tree) ∷ []) it.1 (is_built_of_rests_on pairs written_tree (mine.0.1) it.0, tt),
       )
 
   pub plain_below : {S F : Type 0} (gave : F → Pair → F → Type 0) (queries answered : F) (old new : State S) (prefix : Path) (it : Written) → IsPlainState old
       → IsWrittenBelow gave queries old prefix it new answered → Within it.trees.items → IsPlainState new × AreBuilt it.trees.items
   plain_below gave queries answered old new prefix it holds h within =
       let out = h.emitted in
-      let own : h.own ≡ out.2 = last_tree_unique h.below (out.0) it.id (out.1) h.own (out.2) (sym h.last ∙ out.4) in
-      let remaining = went old new prefix out.0 out.1 out.2 out.3.0 holds out.3.1 (subst Within out.4 within)
+      let written_tree : h.written_tree ≡ out.2 = last_tree_unique h.below (out.0) it.id (out.1) h.written_tree (out.2) (sym h.last ∙ out.4) in
+      let remaining = is_plain_after_write old new prefix out.0 out.1 out.2 out.3.0 holds out.3.1 (subst Within out.4 within)
       (subst (λ (l : List Pair). AllByRecursion (λ pair. IsStorable pair.1) l) out.4
       (recursion_from_All (λ (pair : Pair). IsStorable pair.1) it.trees.items h.storable))
-      (subst (λ (l : List EntryView). (at : Path) → open_dirs new at ≡ with_path prefix (only_open l) (open_dirs old) at) own h.dirs) h.bases in
+      (subst (λ (l : List EntryView). (at : Path) → open_dirs new at ≡ with_path prefix (only_open l) (open_dirs old) at) written_tree h.dirs) h.bases in
       ((h.is_opened, remaining.0), subst AreBuilt (sym out.4) remaining.1)
 
   pub plain_root : {S F : Type 0} (gave : F → Pair → F → Type 0) (queries answered : F) (old new : State S) (it : Written) → IsPlainState old
       → IsWrittenEditor gave queries old it new answered → Within it.trees.items → IsPlainState new × AreBuilt it.trees.items
   plain_root gave queries answered old new it holds h within =
       let out = h.emitted in
-      let own : h.own ≡ out.2 = last_tree_unique h.below (out.0) it.id (out.1) h.own (out.2) (sym h.last ∙ out.4) in
+      let written_tree : h.written_tree ≡ out.2 = last_tree_unique h.below (out.0) it.id (out.1) h.written_tree (out.2) (sym h.last ∙ out.4) in
       let storable = subst (λ (l : List Pair). AllByRecursion (λ pair. IsStorable pair.1) l) out.4
       (recursion_from_All (λ (pair : Pair). IsStorable pair.1) it.trees.items h.storable) in
-      let alone : (at : Path) → open_dirs new at ≡ only_open out.2 at = λ at. ap (λ (m : DirMap). map.get m at) h.dirs ∙ root_alone_get h.own at
-      ∙ ap (λ (l : List EntryView). only_open l at) own in
-      let remaining = went old new [] out.0 out.1 out.2 out.3.0 holds out.3.1 (subst Within out.4 within) storable alone h.bases in (
+      let alone : (at : Path) → open_dirs new at ≡ only_open out.2 at = λ at. ap (λ (m : DirMap). map.get m at) h.dirs ∙ root_alone_get h.written_tree at
+      ∙ ap (λ (l : List EntryView). only_open l at) written_tree in
+      let remaining = is_plain_after_write old new [] out.0 out.1 out.2 out.3.0 holds out.3.1 (subst Within out.4 within) storable alone h.bases in (
         (
           subst (λ (d : Dirs). IsOpened d) (sym (λ i at. alone at i))
               (is_opened_of_only out.2 (all_right (λ (pair : Pair). IsStorable pair.1) out.0 ((out.1, out.2) ∷ []) storable).0.well_formed),

@@ -106,12 +106,12 @@ module _ {StopsBefore : EntryView → Type 0} (idle : IsIdle StopsBefore) (objec
   stopped_opening_fails path names last following is good old new requested (Some it) halts opening.MalformedTree at =
       let h = halted_at trees names last following old new requested (Some it) halts it refl in
       subst (λ p. IsRemovalErrorUpTo StopsBefore objects may_fail trees old p error.MalformedTree) (sym is)
-      (it, h.0, are_names_prefix h.0.place h.1 (subst AreNames h.2 good), at)
+      (it, h.0, are_names_prefix h.0.parent h.1 (subst AreNames h.2 good), at)
   stopped_opening_fails path names last following is good old new requested None halts (opening.FindExistingObject why) at = absurd (cc at)
   stopped_opening_fails path names last following is good old new requested (Some it) halts (opening.FindExistingObject why) at =
       let h = halted_at trees names last following old new requested (Some it) halts it refl in
       subst (λ p. IsRemovalErrorUpTo StopsBefore objects may_fail trees old p (error.FindExistingObject why)) (sym is)
-      (it, h.0, are_names_prefix h.0.place h.1 (subst AreNames h.2 good), at)
+      (it, h.0, are_names_prefix h.0.parent h.1 (subst AreNames h.2 good), at)
 
   pub halted_removal : (path names rejected : Path) → SplitsAtFirstInvalid path names rejected
       → (old new : Dirs) (requested : List ObjectId) (failed_lookup : Option ObjectId)

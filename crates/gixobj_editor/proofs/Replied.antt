@@ -23,59 +23,60 @@ use Rattle.gixobj_files.specs.State.{EditorFiles, State, open_bases, open_dirs, 
 use Rattle.gixobj_hash.specs.declared.hash.object_id.ObjectId.{ObjectId}
 use Rattle.gixobj_mode.specs.Mode.{mode_of_kind}
 use Rattle.gixobj_mode.specs.declared.entry_kind.EntryKind.{EntryKind}
-use Rattle.gixobj_editor.specs.Commands.{Place, at_cursor, path_at}
+use Rattle.gixobj_editor.specs.Commands.{Location, at_cursor, path_at}
 use Rattle.gixobj_editor.specs.Replies.{Answers, AreEditReplies, IsEditReply, IsFailedEdit, IsReplyAt, IsRootSet, IsEditErrorAt, reply_to}
 use Rattle.gixobj_editor.specs.declared.reply.EditReply.{EditReply}
 use Rattle.gixobj_editor.specs.declared.reply.Reply.TheVariants as reply
 
 -- an edit at the names that were lent to the call
-module _ {S E : Type 0} (model : StoreModel S) (answers : Answers E) (place : Place) (old new : State S) (path : Vec BString Global) (lent : List BString)
+module _ {S E : Type 0} (model : StoreModel S) (answers : Answers E) (location : Location) (old new : State S) (path : Vec BString Global) (lent : List BString)
     (is : lent ≡ path.items) where
   abbrev Of : (Trees → Type 0) → Type 0
   Of = OfTrees (model.objects old.store)
 
   failed_reply : (error : Error) (Rejects : List BString → Trees → Type 0)
-      → Of (λ trees. IsAfterFailedEdit model trees old (path_at place (names_of lent)) error new)
-      → Of (Rejects lent) → IsFailedEdit model (Rejects path.items) old (path_at place (names_of path.items)) error new
-  failed_reply error Rejects pending failure = subst (λ (l : List BString). IsFailedEdit model (Rejects l) old (path_at place (names_of l)) error new) is
+      → Of (λ trees. IsAfterFailedEdit model trees old (path_at location (names_of lent)) error new)
+      → Of (Rejects lent) → IsFailedEdit model (Rejects path.items) old (path_at location (names_of path.items)) error new
+  failed_reply error Rejects pending failure = subst (λ (l : List BString). IsFailedEdit model (Rejects l) old (path_at location (names_of l)) error new) is
       (record { effect = pending; cause = failure })
 
   abbrev Upserts : List BString → Error → Trees → Type 0
-  Upserts l error trees = IsEditErrorAt place (names_of l) (IsUpsertError (model.objects old.store) (model.may_fail old.store) trees (open_dirs old)
-      (path_at place (names_of l))) error
+  Upserts l error trees = IsEditErrorAt location (names_of l) (IsUpsertError (model.objects old.store) (model.may_fail old.store) trees (open_dirs old)
+      (path_at location (names_of l))) error
 
   abbrev Removes : List BString → Error → Trees → Type 0
-  Removes l error trees = IsEditErrorAt place (names_of l) (IsRemovalError (model.objects old.store) (model.may_fail old.store) trees (open_dirs old)
-      (path_at place (names_of l))) error
+  Removes l error trees = IsEditErrorAt location (names_of l) (IsRemovalError (model.objects old.store) (model.may_fail old.store) trees (open_dirs old)
+      (path_at location (names_of l))) error
 
   abbrev RemovesLeaf : List BString → Error → Trees → Type 0
   RemovesLeaf l error trees =
-      IsEditErrorAt place (names_of l) (IsLeafRemovalError (model.objects old.store) (model.may_fail old.store) trees (open_dirs old)
-      (path_at place (names_of l))) error
+      IsEditErrorAt location (names_of l) (IsLeafRemovalError (model.objects old.store) (model.may_fail old.store) trees (open_dirs old)
+      (path_at location (names_of l))) error
 
   pub upsert_replied : (kind : EntryKind) (id : ObjectId) (done : Result (Unit {0}) Error)
-      → OnOk done (Of (λ trees. IsUpserted trees old (path_at place (names_of lent)) (mode_of_kind kind) id new))
-      → IfErr done (λ error. Of (λ trees. IsAfterFailedEdit model trees old (path_at place (names_of lent)) error new))
+      → OnOk done (Of (λ trees. IsUpserted trees old (path_at location (names_of lent)) (mode_of_kind kind) id new))
+      → IfErr done (λ error. Of (λ trees. IsAfterFailedEdit model trees old (path_at location (names_of lent)) error new))
       → IfErr done (λ error. Of (Upserts lent error)) → IfErr done (λ error. IsNameError error → new ≡ old)
-      → IsEditReply model answers place old (edit.Upsert path kind id) (reply_to done) new
+      → IsEditReply model answers location old (edit.Upsert path kind id) (reply_to done) new
   upsert_replied kind id (Ok it) upserted pending failure not_looked_up =
-      subst (λ (l : List BString). Of (λ trees. IsUpserted trees old (path_at place (names_of l)) (mode_of_kind kind) id new)) is upserted
+      subst (λ (l : List BString). Of (λ trees. IsUpserted trees old (path_at location (names_of l)) (mode_of_kind kind) id new)) is upserted
   upsert_replied kind id (Err error) upserted pending failure not_looked_up =
       (failed_reply error (λ l trees. Upserts l error trees) pending failure, not_looked_up)
 
-  pub removal_replied : (done : Result (Unit {0}) Error) → OnOk done (Of (λ trees. IsRemoved trees old (path_at place (names_of lent)) new))
-      → IfErr done (λ error. Of (λ trees. IsAfterFailedEdit model trees old (path_at place (names_of lent)) error new))
+  pub removal_replied : (done : Result (Unit {0}) Error) → OnOk done (Of (λ trees. IsRemoved trees old (path_at location (names_of lent)) new))
+      → IfErr done (λ error. Of (λ trees. IsAfterFailedEdit model trees old (path_at location (names_of lent)) error new))
       → IfErr done (λ error. Of (Removes lent error))
-      → IsEditReply model answers place old (edit.Remove path) (reply_to done) new
-  removal_replied (Ok it) removed pending failure = subst (λ (l : List BString). Of (λ trees. IsRemoved trees old (path_at place (names_of l)) new)) is
+      → IsEditReply model answers location old (edit.Remove path) (reply_to done) new
+  removal_replied (Ok it) removed pending failure = subst (λ (l : List BString). Of (λ trees. IsRemoved trees old (path_at location (names_of l)) new)) is
       removed
   removal_replied (Err error) removed pending failure = failed_reply error (λ l trees. Removes l error trees) pending failure
 
-  pub leaf_removal_replied : (done : Result (Unit {0}) Error) → OnOk done (Of (λ trees. IsLeafRemoved trees old (path_at place (names_of lent)) new))
-      → IfErr done (λ error. Of (λ trees. IsAfterFailedEdit model trees old (path_at place (names_of lent)) error new))
+  pub leaf_removal_replied : (done : Result (Unit {0}) Error) → OnOk done (Of (λ trees. IsLeafRemoved trees old (path_at location (names_of lent)) new))
+      → IfErr done (λ error. Of (λ trees. IsAfterFailedEdit model trees old (path_at location (names_of lent)) error new))
       → IfErr done (λ error. Of (RemovesLeaf lent error))
-      → IsEditReply model answers place old (edit.RemoveLeaf path) (reply_to done) new
-  leaf_removal_replied (Ok it) removed pending failure = subst (λ (l : List BString). Of (λ trees. IsLeafRemoved trees old (path_at place (names_of l)) new)) is
+      → IsEditReply model answers location old (edit.RemoveLeaf path) (reply_to done) new
+  leaf_removal_replied (Ok it) removed pending failure = subst (λ (l : List BString). Of
+      (λ trees. IsLeafRemoved trees old (path_at location (names_of l)) new)) is
       removed
   leaf_removal_replied (Err error) removed pending failure = failed_reply error (λ l trees. RemovesLeaf l error trees) pending failure
 

@@ -27,7 +27,7 @@ use Rattle.gixobj_tree.specs.Entries.{EntryView, Pair}
 use Rattle.gixobj_mode.specs.Mode.{is_tree_mode, mode_of_kind}
 use Rattle.gixobj_mode.specs.declared.entry_kind.EntryKind.{EntryKind}
 use Rattle.gixobj_mode.specs.declared.entry_kind.EntryKind.TheVariants as kind
-use Rattle.gixobj_editor.specs.Commands.{Place, accepted_steps, at_cursor, at_root, steps_of, steps_of_edit, steps_of_edits}
+use Rattle.gixobj_editor.specs.Commands.{Location, accepted_steps, at_cursor, at_root, steps_of, steps_of_edit, steps_of_edits}
 use Rattle.gixobj_editor.specs.PlainRuns.{NamesNoTree, InsertsNoTree, files_before}
 use Rattle.gixobj_editor.specs.declared.reply.EditReply.{EditReply}
 use Rattle.gixobj_editor.specs.declared.reply.EditReply.TheVariants as edit_reply
@@ -78,17 +78,18 @@ all_have_no_tree_append [] ys h k = k
 all_have_no_tree_append (x ∷ xs) ys h k = (h.0, all_have_no_tree_append xs ys h.1 k)
 
 module _ {E : Type 0} where
-  edit_steps : (place : Place) (it : Edit) (its_reply : EditReply E) → InsertsNoTree it → AllByRecursion HasNoTree (steps_of_edit place it its_reply)
-  edit_steps place (edit.Upsert path k id) edit_reply.Done other = (mode_of_kind_not_tree k other, tt)
-  edit_steps place (edit.Remove path) edit_reply.Done other = (tt, tt)
-  edit_steps place (edit.RemoveLeaf path) edit_reply.Done other = (tt, tt)
-  edit_steps place it its_reply other = tt
+  edit_steps : (location : Location) (it : Edit) (its_reply : EditReply E) → InsertsNoTree it → AllByRecursion HasNoTree (steps_of_edit location it its_reply)
+  edit_steps location (edit.Upsert path k id) edit_reply.Done other = (mode_of_kind_not_tree k other, tt)
+  edit_steps location (edit.Remove path) edit_reply.Done other = (tt, tt)
+  edit_steps location (edit.RemoveLeaf path) edit_reply.Done other = (tt, tt)
+  edit_steps location it its_reply other = tt
 
-  edits_steps : (place : Place) (edits : List Edit) (replies : List (EditReply E)) → AllByRecursion InsertsNoTree edits
-      → AllByRecursion HasNoTree (steps_of_edits place edits replies)
-  edits_steps place (it ∷ edits) (its_reply ∷ replies) other = all_have_no_tree_append (steps_of_edit place it its_reply) (steps_of_edits place edits replies)
-      (edit_steps place it its_reply other.0) (edits_steps place edits replies other.1)
-  edits_steps place edits replies other = tt
+  edits_steps : (location : Location) (edits : List Edit) (replies : List (EditReply E)) → AllByRecursion InsertsNoTree edits
+      → AllByRecursion HasNoTree (steps_of_edits location edits replies)
+  edits_steps location (it ∷ edits) (its_reply ∷ replies) other = all_have_no_tree_append (steps_of_edit location it its_reply)
+      (steps_of_edits location edits replies)
+      (edit_steps location it its_reply other.0) (edits_steps location edits replies other.1)
+  edits_steps location edits replies other = tt
 
   command_steps : (it : Command) (its_reply : Reply E) → NamesNoTree it → AllByRecursion HasNoTree (steps_of it its_reply)
   command_steps (command.Edit it) (reply.Edit its_reply) other = edit_steps at_root it its_reply other

@@ -2,7 +2,7 @@
 use Rattle.std.specs.Prelude.{◌≡◌, List, [], ◌∷◌, ⊤}
 use Rattle.gixobj_directories.specs.Calls.{names_of}
 use Rattle.gixobj_directories.specs.Openings.{OfTrees}
-use Rattle.gixobj_editor.specs.Commands.{Place, at_cursor}
+use Rattle.gixobj_editor.specs.Commands.{Location, at_cursor}
 use Rattle.gixobj_editor.specs.Cursors.{IsEnsured, cursor_path}
 use Rattle.gixobj_editor.specs.Replies.{Answers, IsEditReply, IsReply}
 use Rattle.gixobj_editor.specs.declared.command.Command.{Command}
@@ -26,12 +26,13 @@ HasKeepCause objects errors store its_reply = ⊤
 
 module _ {S E : Type 0} (model : StoreModel S) (errors : KeepErrors S) (answers : Answers E) where
   -- the edits may get these replies, one after the other, and each reply has its cause in the state before its edit
-  abbrev pub HaveEditCauses : Place → State S → List Edit → List (EditReply E) → State S → Type 0
-  HaveEditCauses place old [] [] new = new ≡ old
-  HaveEditCauses place old (it ∷ edits) (its_reply ∷ replies) new = (between : State S)
-      × IsEditReply model answers place old it its_reply between × HasKeepCause model.objects errors old.store its_reply
-      × HaveEditCauses place between edits replies new
-  HaveEditCauses place old edits replies new = ⊥
+  abbrev pub HaveEditCauses : Location → State S → List Edit → List (EditReply E) → State S → Type 0
+  HaveEditCauses location old [] [] new = new ≡ old
+  HaveEditCauses location old (it ∷ edits) (its_reply ∷ replies) new = (between : State S)
+      × IsEditReply model answers location old it its_reply between
+      × HasKeepCause model.objects errors old.store its_reply
+      × HaveEditCauses location between edits replies new
+  HaveEditCauses location old edits replies new = ⊥
 
   -- the causes in the replies to edits by a cursor at a prefix, which begin once its directory is ensured
   abbrev pub HasCausesAt : Path → State S → List Edit → Reply E → State S → Type 0

@@ -17,29 +17,29 @@ use Rattle.gixobj_editor.specs.declared.reply.EditReply.TheVariants as edit_repl
 use Rattle.gixobj_editor.specs.declared.reply.Reply.{Reply}
 use Rattle.gixobj_editor.specs.declared.reply.Reply.TheVariants as reply
 
--- the place of an edit: the root of the editor, or a cursor at a prefix
-pub data Place : Type 0 where
-  at_root : Place
-  at_cursor : Path → Place
+-- the location of an edit: the root of the editor, or a cursor at a prefix
+pub data Location : Type 0 where
+  at_root : Location
+  at_cursor : Path → Location
 
 -- the path from the root of an edit's path
-abbrev pub path_at : Place → Path → Path
+abbrev pub path_at : Location → Path → Path
 path_at at_root path = path
 path_at (at_cursor prefix) path = from_root prefix path
 
 -- the steps of an edit by its reply: one for an accepted edit, none for a failed one and for a write
-abbrev pub steps_of_edit : {E : Type 0} → Place → Edit → EditReply E → List Step
-steps_of_edit place (edit.Upsert path kind id) edit_reply.Done =
-    upsert (path_at place (names_of path.items)) (mode_of_kind kind) id ∷ []
-steps_of_edit place (edit.Remove path) edit_reply.Done = remove (path_at place (names_of path.items)) ∷ []
-steps_of_edit place (edit.RemoveLeaf path) edit_reply.Done = remove (path_at place (names_of path.items)) ∷ []
-steps_of_edit place it its_reply = []
+abbrev pub steps_of_edit : {E : Type 0} → Location → Edit → EditReply E → List Step
+steps_of_edit location (edit.Upsert path kind id) edit_reply.Done =
+    upsert (path_at location (names_of path.items)) (mode_of_kind kind) id ∷ []
+steps_of_edit location (edit.Remove path) edit_reply.Done = remove (path_at location (names_of path.items)) ∷ []
+steps_of_edit location (edit.RemoveLeaf path) edit_reply.Done = remove (path_at location (names_of path.items)) ∷ []
+steps_of_edit location it its_reply = []
 
 -- the steps of the accepted edits, in order
-abbrev pub steps_of_edits : {E : Type 0} → Place → List Edit → List (EditReply E) → List Step
-steps_of_edits place (it ∷ edits) (its_reply ∷ replies) =
-    steps_of_edit place it its_reply ++ steps_of_edits place edits replies
-steps_of_edits place edits replies = []
+abbrev pub steps_of_edits : {E : Type 0} → Location → List Edit → List (EditReply E) → List Step
+steps_of_edits location (it ∷ edits) (its_reply ∷ replies) =
+    steps_of_edit location it its_reply ++ steps_of_edits location edits replies
+steps_of_edits location edits replies = []
 
 -- the steps of edits by a cursor: if the cursor is made, its directory is ensured, and then come the accepted edits
 abbrev pub steps_at : {E : Type 0} → Path → List Edit → Reply E → List Step

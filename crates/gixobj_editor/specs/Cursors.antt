@@ -99,9 +99,9 @@ pub record IsWrittenBelow {S F : Type 0} (gave : F → Pair → F → Type 0) (b
   pub called : FoldsTo gave before it.trees.items after
   pub storable : All (λ pair. IsStorable pair.1) it.trees.items
   pub below : List Pair
-  pub own : List EntryView
-  pub last : it.trees.items ≡ below ++ (it.id, own) ∷ []
-  pub dirs : (at : Path) → open_dirs new at ≡ with_path prefix (only_open own) (open_dirs old) at
+  pub written_tree : List EntryView
+  pub last : it.trees.items ≡ below ++ (it.id, written_tree) ∷ []
+  pub dirs : (at : Path) → open_dirs new at ≡ with_path prefix (only_open written_tree) (open_dirs old) at
   pub bases : (at : Path) → open_bases new at ≡ edited_bases (open_dirs old) (open_dirs new) (open_bases old) at
   pub rest : new ≡ record old { dirs = new.dirs; bases = new.bases }
   pub is_opened : IsOpened (open_dirs new)

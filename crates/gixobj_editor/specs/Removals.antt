@@ -25,8 +25,8 @@ use Rattle.gixobj_editor.specs.declared.editor.error.Error.TheVariants as error
 
 -- a removal reaches this name of its path: the names before it are valid, and their directory is reached
 abbrev pub ValidatesUpTo : (EntryView → Type 0) → Trees → Dirs → Path → List ℕ → Type 0
-ValidatesUpTo StopsBefore trees dirs path name = (place rest : Path) × (path ≡ place ++ name ∷ rest) × AreNames place
-    × ReachesDirectory StopsBefore trees dirs place
+ValidatesUpTo StopsBefore trees dirs path name = (parent rest : Path) × (path ≡ parent ++ name ∷ rest) × AreNames parent
+    × ReachesDirectory StopsBefore trees dirs parent
 
 -- a removal reaches an invalid name, with this error
 abbrev pub HasInvalidName : (EntryView → Type 0) → Trees → Dirs → Path → Error → Type 0
@@ -36,7 +36,7 @@ HasInvalidName StopsBefore trees dirs path failure = (name : List ℕ) × Valida
 -- a removal reaches a directory that isn't opened, with this cause
 abbrev pub IsOpenErrorOnPath : Objects → (ObjectId → Bool) → Trees → Dirs → Path → directory.Error → Type 0
 IsOpenErrorOnPath objects may_fail trees dirs path cause = (it : ObjectId) × (h : IsUnopenedAbove trees dirs path it)
-    × AreNames h.place × IsDirectoryError objects may_fail it cause
+    × AreNames h.parent × IsDirectoryError objects may_fail it cause
 
 -- the errors of a removal whose opening ends before such entries, the first on the way from the root: that of an
 -- invalid name; that of an unopened directory, which the store doesn't have as a well-formed tree, or whose lookup

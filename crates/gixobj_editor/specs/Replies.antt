@@ -30,7 +30,7 @@ use Rattle.gixobj_tree.specs.Entries.{EntryView, Pair}
 use Rattle.gixobj_tree.specs.WellFormed.{IsWellFormed}
 use Rattle.gixobj_tree.specs.TreeEncoding.{IsEncodableTree}
 use Rattle.gixobj_mode.specs.Mode.{mode_of_kind}
-use Rattle.gixobj_editor.specs.Commands.{Place, at_cursor, at_root, path_at}
+use Rattle.gixobj_editor.specs.Commands.{Location, at_cursor, at_root, path_at}
 use Rattle.gixobj_editor.specs.declared.reply.EditReply.{EditReply}
 use Rattle.gixobj_editor.specs.declared.reply.EditReply.TheVariants as edit_reply
 use Rattle.gixobj_editor.specs.declared.reply.Reply.{Reply}
@@ -44,13 +44,13 @@ Answers E = List EntryView → Result ObjectId E → Type 0
 abbrev pub IsCallable : {F : Type 0} → (F → Bor (List EntryView) → Type 0) → F → Type 0
 IsCallable pre out = (tree : Bor (List EntryView)) → IsStorable tree.now → pre out tree
 
--- the errors of an edit at the place
-abbrev pub IsEditErrorAt : Place → Path → (Error → Type 0) → Error → Type 0
+-- the errors of an edit at this location
+abbrev pub IsEditErrorAt : Location → Path → (Error → Type 0) → Error → Type 0
 IsEditErrorAt at_root path rejects error = rejects error
 IsEditErrorAt (at_cursor prefix) path rejects error = IsCursorEditError path rejects error
 
--- the open directories that a write at the place emits from
-abbrev pub dirs_at : Place → Dirs → Dirs
+-- the open directories that a write at this location emits from
+abbrev pub dirs_at : Location → Dirs → Dirs
 dirs_at at_root dirs = dirs
 dirs_at (at_cursor prefix) dirs = in_path prefix dirs
 
@@ -74,7 +74,7 @@ pub record IsFailedEdit {S : Type 0} (model : StoreModel S) (Rejects : Trees →
   pub cause : OfTrees (model.objects old.store) Rejects
 
 -- the effect of a successful write
-abbrev pub IsWrittenAt : {S E : Type 0} → Answers E → Place → Written → State S → State S → Type 0
+abbrev pub IsWrittenAt : {S E : Type 0} → Answers E → Location → Written → State S → State S → Type 0
 IsWrittenAt answers at_root it old new = IsWrittenEditor (ReturnsTreeId answers) tt old it new tt
 IsWrittenAt answers (at_cursor prefix) it old new = IsWrittenBelow (ReturnsTreeId answers) tt old prefix it new tt
 
@@ -93,10 +93,11 @@ abbrev pub KeepsAll : List Pair → Objects → Objects → Type 0
 KeepsAll pairs before after = (after ≡ with_trees pairs before) × All (λ pair. IsEncodableTree pair.1) pairs
 
 -- the effect of a failed write, and its cause: the editor is unchanged
-pub record IsFailedWrite {S E : Type 0} (answers : Answers E) (place : Place) (old : State S) (error : WriteError E)
+pub record IsFailedWrite {S E : Type 0} (answers : Answers E) (location : Location) (old : State S)
+    (error : WriteError E)
     (new : State S) : Type 0 where
   pub cause : IsWriteError (ReturnsTreeId answers) (Denies answers)
-      (EmitsSome (dirs_at place (open_dirs old)) (dirs_at place (open_bases old))) tt tt error
+      (EmitsSome (dirs_at location (open_dirs old)) (dirs_at location (open_bases old))) tt tt error
   pub unchanged : new ≡ old
 
 -- the effect of a new root: it is open alone
@@ -108,43 +109,44 @@ pub record IsRootSet {S : Type 0} (old : State S) (entries : List EntryView) (ne
 
 module _ {S E : Type 0} (model : StoreModel S) (answers : Answers E) where
   -- the edit may get this reply and turn the old state into the new one
-  abbrev pub IsEditReply : Place → State S → Edit → EditReply E → State S → Type 0
-  IsEditReply place old (edit.Upsert path kind id) edit_reply.Done new =
+  abbrev pub IsEditReply : Location → State S → Edit → EditReply E → State S → Type 0
+  IsEditReply location old (edit.Upsert path kind id) edit_reply.Done new =
       OfTrees (model.objects old.store)
-      (λ trees. IsUpserted trees old (path_at place (names_of path.items)) (mode_of_kind kind) id new)
-  IsEditReply place old (edit.Upsert path kind id) (edit_reply.Refused error) new =
-      IsFailedEdit model (λ trees. IsEditErrorAt place (names_of path.items)
+      (λ trees. IsUpserted trees old (path_at location (names_of path.items)) (mode_of_kind kind) id new)
+  IsEditReply location old (edit.Upsert path kind id) (edit_reply.Refused error) new =
+      IsFailedEdit model (λ trees. IsEditErrorAt location (names_of path.items)
       (IsUpsertError (model.objects old.store) (model.may_fail old.store) trees (open_dirs old)
-      (path_at place (names_of path.items))) error) old (path_at place (names_of path.items)) error new
+      (path_at location (names_of path.items))) error) old (path_at location (names_of path.items)) error new
       × (IsNameError error → new ≡ old)
-  IsEditReply place old (edit.Remove path) edit_reply.Done new =
+  IsEditReply location old (edit.Remove path) edit_reply.Done new =
       OfTrees (model.objects old.store)
-      (λ trees. IsRemoved trees old (path_at place (names_of path.items)) new)
-  IsEditReply place old (edit.Remove path) (edit_reply.Refused error) new =
-      IsFailedEdit model (λ trees. IsEditErrorAt place (names_of path.items)
+      (λ trees. IsRemoved trees old (path_at location (names_of path.items)) new)
+  IsEditReply location old (edit.Remove path) (edit_reply.Refused error) new =
+      IsFailedEdit model (λ trees. IsEditErrorAt location (names_of path.items)
       (IsRemovalError (model.objects old.store) (model.may_fail old.store) trees (open_dirs old)
-      (path_at place (names_of path.items))) error) old (path_at place (names_of path.items)) error new
-  IsEditReply place old (edit.RemoveLeaf path) edit_reply.Done new =
-      OfTrees (model.objects old.store) (λ trees. IsLeafRemoved trees old (path_at place (names_of path.items)) new)
-  IsEditReply place old (edit.RemoveLeaf path) (edit_reply.Refused error) new =
-      IsFailedEdit model (λ trees. IsEditErrorAt place (names_of path.items)
+      (path_at location (names_of path.items))) error) old (path_at location (names_of path.items)) error new
+  IsEditReply location old (edit.RemoveLeaf path) edit_reply.Done new =
+      OfTrees (model.objects old.store) (λ trees. IsLeafRemoved trees old (path_at location (names_of path.items)) new)
+  IsEditReply location old (edit.RemoveLeaf path) (edit_reply.Refused error) new =
+      IsFailedEdit model (λ trees. IsEditErrorAt location (names_of path.items)
       (IsLeafRemovalError (model.objects old.store) (model.may_fail old.store) trees (open_dirs old)
-      (path_at place (names_of path.items))) error) old (path_at place (names_of path.items)) error new
-  IsEditReply place old edit.Write (edit_reply.Written it) new = IsWriteKept model (IsWrittenAt answers place it old)
+      (path_at location (names_of path.items))) error) old (path_at location (names_of path.items)) error new
+  IsEditReply location old edit.Write (edit_reply.Written it) new =
+      IsWriteKept model (IsWrittenAt answers location it old)
       (KeepsAll it.trees.items) old new
-  IsEditReply place old edit.Write (edit_reply.NotKept it count error) new =
-      IsWriteKept model (IsWrittenAt answers place it old)
+  IsEditReply location old edit.Write (edit_reply.NotKept it count error) new =
+      IsWriteKept model (IsWrittenAt answers location it old)
       (λ before after. StopsKeepingAt (model.may_fail old.store) it.trees.items before after count error) old new
-  IsEditReply place old edit.Write (edit_reply.WriteRefused error) new = IsFailedWrite answers place old error new
+  IsEditReply location old edit.Write (edit_reply.WriteRefused error) new = IsFailedWrite answers location old error new
   -- an edit gets no other reply
-  IsEditReply place old it its_reply new = ⊥
+  IsEditReply location old it its_reply new = ⊥
 
   -- the edits may get these replies, one after the other
-  abbrev pub AreEditReplies : Place → State S → List Edit → List (EditReply E) → State S → Type 0
-  AreEditReplies place old [] [] new = new ≡ old
-  AreEditReplies place old (it ∷ edits) (its_reply ∷ replies) new = (between : State S)
-      × IsEditReply place old it its_reply between × AreEditReplies place between edits replies new
-  AreEditReplies place old edits replies new = ⊥
+  abbrev pub AreEditReplies : Location → State S → List Edit → List (EditReply E) → State S → Type 0
+  AreEditReplies location old [] [] new = new ≡ old
+  AreEditReplies location old (it ∷ edits) (its_reply ∷ replies) new = (between : State S)
+      × IsEditReply location old it its_reply between × AreEditReplies location between edits replies new
+  AreEditReplies location old edits replies new = ⊥
 
   -- edits by a cursor at a prefix may get this reply: the directory is ensured, and then the edits are done; or
   -- allocation of their replies failed, and nothing was done; or the cursor isn't made

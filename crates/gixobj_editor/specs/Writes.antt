@@ -20,9 +20,9 @@ pub record IsWrittenEditor {S F : Type 0} (gave : F → Pair → F → Type 0) (
   pub called : FoldsTo gave before it.trees.items after
   pub storable : All (λ pair. IsStorable pair.1) it.trees.items
   pub below : List Pair
-  pub own : List EntryView
-  pub last : it.trees.items ≡ below ++ (it.id, own) ∷ []
-  pub dirs : new.dirs ≡ root_alone own
+  pub written_tree : List EntryView
+  pub last : it.trees.items ≡ below ++ (it.id, written_tree) ∷ []
+  pub dirs : new.dirs ≡ root_alone written_tree
   pub bases : (at : Path) → open_bases new at ≡ edited_bases (open_dirs old) (open_dirs new) (open_bases old) at
   pub rest : new ≡ record old { dirs = new.dirs; bases = new.bases }
   pub files : (T : Table) (n : ℕ) → AgreesWithPairs T it.trees.items → HasBases T (open_dirs old) (open_bases old)

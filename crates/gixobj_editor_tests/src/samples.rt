@@ -273,7 +273,7 @@ pub(crate) fn written_by<S>(
     cursor.write(|tree: &Tree| tree.compute_id(alloc, HashKind::Sha1))
 }
 
-/// Returns whether a write by a cursor emits trees of these ids in this order, its own tree last.
+/// Returns whether a write by a cursor emits trees of these ids in this order, its written tree last.
 pub(crate) fn emits<S>(alloc: Global, cursor: &mut Cursor<'_, S>, ids: &[&[u8]]) -> bool {
     match written_by(alloc, cursor) {
         Ok(written) => has_emitted(alloc, &written, ids),

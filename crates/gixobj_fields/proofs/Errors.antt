@@ -106,7 +106,7 @@ lacks_room_after R Q a b c prefix piece first back (error.NullbyteInFilename nam
 lacks_room_after R Q a b c prefix piece first back error.IllegalActor part short = tt
 lacks_room_after R Q a b c prefix piece first back error.OutOfMemory part short = tt
 
--- the same of a result
+-- a result that lacks room after a prefix lacks room for the bytes after the prefix, or for the prefix and the next piece
 pub lacks_room_of_result : {T : Type 0} (result : Result T Error) (R Q : RejectedValue → List ℕ → Type 0) (a b c : SinkView) (prefix piece : List ℕ)
     → AppendsAll a b prefix
     → ((value : RejectedValue) (parts : List ℕ) → Q value parts

@@ -39,7 +39,7 @@ free-tail byte bytes free = All-tail (λ it. it ≢ 10) byte bytes free
 -- the encoding of a value follows from its lines
 folded_of_value_lines : (value first : List ℕ) (more : List (List ℕ)) → value_lines value ≡ (first, more)
     → folded value ≡ encode_line first ++ flat_map encode_continuation more
-folded_of_value_lines value first more cut = ap (λ (lines : List ℕ × List (List ℕ)). encode_line lines.0 ++ flat_map encode_continuation lines.1) cut
+folded_of_value_lines value first more split = ap (λ (lines : List ℕ × List (List ℕ)). encode_line lines.0 ++ flat_map encode_continuation lines.1) split
 
 value_lines_of_newline_free : (value : List ℕ) → IsByteFree 10 value → value_lines value ≡ (value, [])
 value_lines_of_newline_free [] free = refl
@@ -73,8 +73,8 @@ folded_of_one_line line free = folded_of_value_lines (line ++ 10 ∷ []) line []
 -- a last line is its own encoding if its last byte is a newline
 pub folded_of_last_line : (value : List ℕ) → IsLastLine value → slice_get value (length value - 1) ≡ Some 10 → folded value ≡ value
 folded_of_last_line value (inl free) ends =
-    let place = length value - 1 in
-    absurd (All-get_or (λ (it : ℕ). it ≢ 10) value place 0 (slice_get_within value place 10 ends) free (get_or_from_slice_get value place 10 0 ends))
+    let index = length value - 1 in
+    absurd (All-get_or (λ (it : ℕ). it ≢ 10) value index 0 (slice_get_within value index 10 ends) free (get_or_from_slice_get value index 10 0 ends))
 folded_of_last_line value (inr (line, is, free)) ends = rw is (folded_of_one_line line free)
 
 pub folded_of_open_line : (value : List ℕ) → IsLastLine value → (last : ℕ) → slice_get value (length value - 1) ≡ Some last → last ≢ 10
@@ -82,8 +82,8 @@ pub folded_of_open_line : (value : List ℕ) → IsLastLine value → (last : �
 folded_of_open_line value (inl free) last ends other = folded_of_newline_free value free
 folded_of_open_line value (inr (line, is, free)) last ends other =
     let len : length value ≡ length line + 1 = ap length is ∙ length-append line (10 ∷ []) in
-    let place : length value - 1 ≡ length line = omega arith in
-    let found : get_or value (length line) 0 ≡ last = ap (λ (it : ℕ). get_or value it 0) (sym place) ∙ get_or_from_slice_get value
+    let index : length value - 1 ≡ length line = omega arith in
+    let found : get_or value (length line) 0 ≡ last = ap (λ (it : ℕ). get_or value it 0) (sym index) ∙ get_or_from_slice_get value
     (length value - 1) last 0 ends in
     let is_at : get_or value (length line) 0 ≡ 10 = ap (λ (it : List ℕ). get_or it (length line) 0) is ∙ get_or-append_seam line 10 [] 0 in
     absurd (other (sym found ∙ is_at))
@@ -103,17 +103,22 @@ folded_cons_line line (byte ∷ after) free some = folded_append line byte after
 
 pub folded_split_at_newline : (value line after : List ℕ) → SplitsAt 10 value line after → (length after == 0) ≡ false
     → folded value ≡ line ++ 10 ∷ 32 ∷ folded after
-folded_split_at_newline value line after cut some = ap folded cut.joined ∙ folded_cons_line line after cut.first some
+folded_split_at_newline value line after split some = ap folded split.joined ∙ folded_cons_line line after split.first some
 
 pub rest_after_newline_len_lt : (value line after : List ℕ) → SplitsAt 10 value line after → length after < length value
-rest_after_newline_len_lt value line after cut = omega (arith, ap length cut.joined, length-append line (10 ∷ after))
+rest_after_newline_len_lt value line after split = omega (arith, ap length split.joined, length-append line (10 ∷ after))
 
 nil_of_zero_length : (after : List ℕ) → (length after == 0) ≡ true → after ≡ []
 nil_of_zero_length [] none = refl
 nil_of_zero_length (byte ∷ after) none = absurd (let none' : suc (length after) ≡ 0 = eqb-true (suc (length after)) 0 none in omega (arith, none'))
 
 pub is_last_line_of_split : (value line after : List ℕ) → SplitsAt 10 value line after → (length after == 0) ≡ true → IsLastLine value
-is_last_line_of_split value line after cut none = inr (line, cut.joined ∙ ap (λ (it : List ℕ). line ++ 10 ∷ it) (nil_of_zero_length after none), cut.first)
+is_last_line_of_split value line after split none = inr (
+  line,
+  split.joined
+      ∙ ap (λ (it : List ℕ). line ++ 10 ∷ it) (nil_of_zero_length after none),
+  split.first,
+)
 
 pub folded_prefix_append : (value prefix rest line after : List ℕ) → folded value ≡ prefix ++ folded rest → folded rest ≡ line ++ 10 ∷ 32 ∷ folded after
     → folded value ≡ (prefix ++ (line ++ 10 ∷ 32 ∷ [])) ++ folded after

@@ -58,12 +58,12 @@ pub folded_len_split : (value : List ℕ) → 1 ≤ length value
 folded_len_split value some =
     let before = take (length value - 1) value in
     let last = get_or value (length value - 1) 0 in
-    let cut : value ≡ before ++ last ∷ [] = sym (take_all (length value - 1 + 1) value (omega arith)) ∙ take_more value (length value - 1) 0
+    let split : value ≡ before ++ last ∷ [] = sym (take_all (length value - 1 + 1) value (omega arith)) ∙ take_more value (length value - 1) 0
     (omega arith) in
     omega (
       arith,
-      ap (λ (it : List ℕ). length (folded it)) cut,
-      ap length cut,
+      ap (λ (it : List ℕ). length (folded it)) split,
+      ap length split,
       length-append before (last ∷ []),
       folded_len_snoc before last,
       bool_byte_of_not

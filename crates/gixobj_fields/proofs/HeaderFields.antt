@@ -99,9 +99,9 @@ no_kind_of_unknown_name name input value rest field bad kind following second =
 pub no_id_without_newline : (name : List ℕ) (kind : Kind) (input line : List ℕ) (len : ℕ) → input ≡ name ++ 32 ∷ line → len ≡ 2 * hash_len kind
     → get_or line len 0 ≢ 10 → BeginsWithNoIdField name kind input
 no_id_without_newline name kind input line len joined long other hex rest has =
-    let cut : line ≡ hex ++ 10 ∷ rest = field_line_is_value_and_rest name input line hex rest joined has.0 in
-    let placed : len ≡ length hex = long ∙ sym has.1.0 in
-    other (ap (λ (it : List ℕ). get_or it len 0) cut ∙ ap (λ (it : ℕ). get_or (hex ++ 10 ∷ rest) it 0) placed ∙ get_or-append_seam hex 10 rest 0)
+    let splits : line ≡ hex ++ 10 ∷ rest = field_line_is_value_and_rest name input line hex rest joined has.0 in
+    let len_eq : len ≡ length hex = long ∙ sym has.1.0 in
+    other (ap (λ (it : List ℕ). get_or it len 0) splits ∙ ap (λ (it : ℕ). get_or (hex ++ 10 ∷ rest) it 0) len_eq ∙ get_or-append_seam hex 10 rest 0)
 
 prefix_unique_of_length : (a x b y : List ℕ) → a ++ x ≡ b ++ y → length a ≡ length b → a ≡ b
 prefix_unique_of_length a x b y same long =
@@ -111,20 +111,20 @@ pub no_id_of_other_hex : (name : List ℕ) (kind : Kind) (input line value rest 
     → len ≡ 2 * hash_len kind
     → line ≡ value ++ 10 ∷ rest → length value ≡ len
     → (IsIdHexOfKind kind value → ⊥) → BeginsWithNoIdField name kind input
-no_id_of_other_hex name kind input line value rest len joined long cut placed bad hex following has =
+no_id_of_other_hex name kind input line value rest len joined long splits len_eq bad hex following has =
     let same : hex ≡ value = prefix_unique_of_length hex (10 ∷ following) value (10 ∷ rest)
-    (sym (field_line_is_value_and_rest name input line hex following joined has.0) ∙ cut)
-    (has.1.0 ∙ sym (placed ∙ long)) in
+    (sym (field_line_is_value_and_rest name input line hex following joined has.0) ∙ splits)
+    (has.1.0 ∙ sym (len_eq ∙ long)) in
     bad (subst (IsIdHexOfKind kind) same has.1)
 
 -- a list splits before and after the byte at a position
-pub take_cons_drop : (bytes : List ℕ) (place byte : ℕ) → place < length bytes → byte ≡ get_or bytes place 0
-    → bytes ≡ take place bytes ++ byte ∷ drop (place + 1) bytes
-take_cons_drop bytes place byte within is =
-    let next : suc place ≡ place + 1 = omega arith in
-    let following : drop place bytes ≡ byte ∷ drop (place + 1) bytes = drop-cons bytes place 0 within
-    ∙ ap (λ (it : ℕ). get_or bytes place 0 ∷ drop it bytes) next ∙ ap (λ (it : ℕ). it ∷ drop (place + 1) bytes) (sym is) in
-    sym (take-append-drop place bytes) ∙ ap (λ (it : List ℕ). take place bytes ++ it) following
+pub take_cons_drop : (bytes : List ℕ) (index byte : ℕ) → index < length bytes → byte ≡ get_or bytes index 0
+    → bytes ≡ take index bytes ++ byte ∷ drop (index + 1) bytes
+take_cons_drop bytes index byte within is =
+    let next : suc index ≡ index + 1 = omega arith in
+    let following : drop index bytes ≡ byte ∷ drop (index + 1) bytes = drop-cons bytes index 0 within
+    ∙ ap (λ (it : ℕ). get_or bytes index 0 ∷ drop it bytes) next ∙ ap (λ (it : ℕ). it ∷ drop (index + 1) bytes) (sym is) in
+    sym (take-append-drop index bytes) ∙ ap (λ (it : List ℕ). take index bytes ++ it) following
 
 -- ---- continuation lines
 
@@ -149,10 +149,10 @@ run_unique (line ∷ a) (other ∷ b) x y free_a free_b ends_x ends_y same =
     let entire : 32 ∷ (line ++ 10 ∷ (flat_map encode_continuation a ++ x)) ≡ 32 ∷ (other ++ 10 ∷ (flat_map encode_continuation b ++ y)) =
     sym (continuations_cons_append line x a) ∙ same ∙ continuations_cons_append other y b in
     let tails : line ++ 10 ∷ (flat_map encode_continuation a ++ x) ≡ other ++ 10 ∷ (flat_map encode_continuation b ++ y) = cc in
-    let cut = split_parts_unique 10 line (flat_map encode_continuation a ++ x) other (flat_map encode_continuation b ++ y) (All-head P line a free_a)
+    let splits = split_parts_unique 10 line (flat_map encode_continuation a ++ x) other (flat_map encode_continuation b ++ y) (All-head P line a free_a)
     (All-head P other b free_b) tails in
-    let rest = run_unique a b x y (All-tail P line a free_a) (All-tail P other b free_b) ends_x ends_y cut.1 in
-    (cc (cut.0, rest.0), rest.1)
+    let rest = run_unique a b x y (All-tail P line a free_a) (All-tail P other b free_b) ends_x ends_y splits.1 in
+    (cc (splits.0, rest.0), rest.1)
 
 -- an incomplete continuation line makes the continuation lines invalid
 pub no_run_of_unindented : (a b : List (List ℕ)) (following y : List ℕ) → All (λ line. IsByteFree 10 line) a → All (λ line. IsByteFree 10 line) b
@@ -172,10 +172,10 @@ no_run_of_unindented (line ∷ a) (other ∷ b) following y free_a free_b free e
     let entire : 32 ∷ (line ++ 10 ∷ (flat_map encode_continuation a ++ 32 ∷ following)) ≡ 32 ∷ (other ++ 10 ∷ (flat_map encode_continuation b ++ y)) =
     sym (continuations_cons_append line (32 ∷ following) a) ∙ same ∙ continuations_cons_append other y b in
     let tails : line ++ 10 ∷ (flat_map encode_continuation a ++ 32 ∷ following) ≡ other ++ 10 ∷ (flat_map encode_continuation b ++ y) = cc in
-    let cut = split_parts_unique 10 line (flat_map encode_continuation a ++ 32 ∷ following) other (flat_map encode_continuation b ++ y)
+    let splits = split_parts_unique 10 line (flat_map encode_continuation a ++ 32 ∷ following) other (flat_map encode_continuation b ++ y)
     (All-head P line a free_a)
     (All-head P other b free_b) tails in
-    no_run_of_unindented a b following y (All-tail P line a free_a) (All-tail P other b free_b) free ends cut.1
+    no_run_of_unindented a b following y (All-tail P line a free_a) (All-tail P other b free_b) free ends splits.1
 
 -- the continuation lines that were decoded, and the value that they make
 pub record Unfolding (first input unfolded rest : List ℕ) : Type 0 where
@@ -255,8 +255,8 @@ header_name_of_parts input name following first after parts =
 pub has_header_of_one_line : (input name following first after : List ℕ) → SplitsAt 32 input name following → (name ≢ []) × IsByteFree 10 name
     → SplitsAt 10 following first after → EndsHeader after
     → BeginsWithHeader input (record { name = name; value = first }) after
-has_header_of_one_line input name following first after cut named line ends =
-    let parts : HeaderParts input name following first after = record { split_parts = cut; named = named; line = line } in
+has_header_of_one_line input name following first after splits named line ends =
+    let parts : HeaderParts input name following first after = record { split_parts = splits; named = named; line = line } in
     record {
       encoded = name ++ 32 ∷ encode_line first ++ flat_map encode_continuation [];
       joined = input_of_header_parts input name following first after after [] parts refl;
@@ -281,8 +281,8 @@ value_of_lines_of_several first after rest value (second ∷ more) same ends goe
 pub has_header_of_lines : (input name following first after value rest : List ℕ) → SplitsAt 32 input name following → (name ≢ []) × IsByteFree 10 name
     → SplitsAt 10 following first after
     → (EndsHeader after → ⊥) → IsUnfolded first after value rest → BeginsWithHeader input (record { name = name; value = value }) rest
-has_header_of_lines input name following first after value rest cut named line goes_on (more, lines, is) =
-    let parts : HeaderParts input name following first after = record { split_parts = cut; named = named; line = line } in
+has_header_of_lines input name following first after value rest splits named line goes_on (more, lines, is) =
+    let parts : HeaderParts input name following first after = record { split_parts = splits; named = named; line = line } in
     record {
       encoded = name ++ 32 ∷ encode_line first ++ flat_map encode_continuation more;
       joined = input_of_header_parts input name following first after rest more parts lines.joined;
@@ -312,34 +312,34 @@ no_header_without_space input free h rest it =
 -- the first space of a header splits its name from its lines
 header_name_unique : (input name following : List ℕ) (h : Header) (rest : List ℕ) → SplitsAt 32 input name following → (it : BeginsWithHeader input h rest)
     → (name ≡ h.name) × (following ≡ it.written.first ++ 10 ∷ (flat_map encode_continuation it.written.more ++ rest))
-header_name_unique input name following h rest cut it =
-    split_parts_unique 32 name following h.name (it.written.first ++ 10 ∷ (flat_map encode_continuation it.written.more ++ rest)) cut.first
+header_name_unique input name following h rest splits it =
+    split_parts_unique 32 name following h.name (it.written.first ++ 10 ∷ (flat_map encode_continuation it.written.more ++ rest)) splits.first
     it.written.named.no_space
-    (sym cut.joined ∙ input_of_begins_with_header input h rest it)
+    (sym splits.joined ∙ input_of_begins_with_header input h rest it)
 
 pub no_header_of_empty_name : (input name following : List ℕ) → SplitsAt 32 input name following → (IsHeaderName name → ⊥) → BeginsWithNoHeader input
-no_header_of_empty_name input name following cut bad h rest it =
-    bad (subst IsHeaderName (sym (header_name_unique input name following h rest cut it).0) it.written.named)
+no_header_of_empty_name input name following splits bad h rest it =
+    bad (subst IsHeaderName (sym (header_name_unique input name following h rest splits it).0) it.written.named)
 
 pub no_header_without_newline : (input name following : List ℕ) → SplitsAt 32 input name following → IsByteFree 10 following → BeginsWithNoHeader input
-no_header_without_newline input name following cut free h rest it =
+no_header_without_newline input name following splits free h rest it =
     no_split_of_byte_free 10 it.written.first (flat_map encode_continuation it.written.more ++ rest)
-    (subst (IsByteFree 10) (header_name_unique input name following h rest cut it).1 free)
+    (subst (IsByteFree 10) (header_name_unique input name following h rest splits it).1 free)
 
 -- the first newline of a header's lines splits the first line from the continuation lines
 header_first_line_unique : (input name following first after : List ℕ) (h : Header) (rest : List ℕ) → SplitsAt 32 input name following
     → SplitsAt 10 following first after
     → (it : BeginsWithHeader input h rest)
     → (first ≡ it.written.first) × (after ≡ flat_map encode_continuation it.written.more ++ rest)
-header_first_line_unique input name following first after h rest cut line it =
+header_first_line_unique input name following first after h rest splits line it =
     split_parts_unique 10 first after it.written.first (flat_map encode_continuation it.written.more ++ rest) line.first it.written.one_line
-    (sym line.joined ∙ (header_name_unique input name following h rest cut it).1)
+    (sym line.joined ∙ (header_name_unique input name following h rest splits it).1)
 
 pub no_header_without_lines : (input name following first after : List ℕ) → SplitsAt 32 input name following → SplitsAt 10 following first after
     → BeginsWithNoContinuations after → BeginsWithNoHeader input
-no_header_without_lines input name following first after cut line bad h rest it =
+no_header_without_lines input name following first after splits line bad h rest it =
     bad it.written.more rest (record {
-      joined = (header_first_line_unique input name following first after h rest cut line it).1;
+      joined = (header_first_line_unique input name following first after h rest splits line it).1;
       each_one_line = it.written.each_one_line;
       ends = it.ends;
     })
@@ -350,14 +350,14 @@ begins_with_space_of_no_header_end (byte ∷ rest) goes_on = (rest, grind (arith
 
 pub begins_several_of_indented : (input name following first after tail : List ℕ) → SplitsAt 32 input name following → (name ≢ []) × IsByteFree 10 name
     → SplitsAt 10 following first after → after ≡ 32 ∷ tail → BeginsWithSeveralLines input
-begins_several_of_indented input name following first after tail cut named line space =
+begins_several_of_indented input name following first after tail splits named line space =
     record {
       name = name;
       first = first;
       rest = tail;
-      joined = cut.joined ∙ ap (λ (it : List ℕ). name ++ 32 ∷ it) (line.joined ∙ ap (λ (it : List ℕ). first ++ 10 ∷ it) space)
+      joined = splits.joined ∙ ap (λ (it : List ℕ). name ++ 32 ∷ it) (line.joined ∙ ap (λ (it : List ℕ). first ++ 10 ∷ it) space)
           ∙ sym (encode_field_append name first (32 ∷ tail));
-      named = record { not_empty = named.0; no_space = cut.first; no_newline = named.1 };
+      named = record { not_empty = named.0; no_space = splits.first; no_newline = named.1 };
       one_line = line.first;
     }
 
@@ -372,20 +372,20 @@ pub header_error_of_lines : (input name following first after tail : List ℕ) (
     × IsByteFree 10 name
     → SplitsAt 10 following first after → after ≡ 32 ∷ tail
     → (e ≡ Malformed → BeginsWithNoContinuations after) → IsHeaderFieldError input f
-header_error_of_lines input name following first after tail f Malformed same cut named line space bad =
-    rw same (no_header_without_lines input name following first after cut line (bad refl))
-header_error_of_lines input name following first after tail f OutOfMemory same cut named line space bad =
-    rw same (begins_several_of_indented input name following first after tail cut named line space)
+header_error_of_lines input name following first after tail f Malformed same splits named line space bad =
+    rw same (no_header_without_lines input name following first after splits line (bad refl))
+header_error_of_lines input name following first after tail f OutOfMemory same splits named line space bad =
+    rw same (begins_several_of_indented input name following first after tail splits named line space)
 
 -- an input begins with at most one header
 pub header_unique : (input : List ℕ) (h k : Header) (x y : List ℕ) → BeginsWithHeader input h x → BeginsWithHeader input k y → (h ≡ k) × (x ≡ y)
 header_unique input h k x y first second =
-    let cut : SplitsAt 32 input h.name (first.written.first ++ 10 ∷ (flat_map encode_continuation first.written.more ++ x)) =
+    let splits : SplitsAt 32 input h.name (first.written.first ++ 10 ∷ (flat_map encode_continuation first.written.more ++ x)) =
     record { joined = input_of_begins_with_header input h x first; first = first.written.named.no_space } in
     let line : SplitsAt 10 (first.written.first ++ 10 ∷ (flat_map encode_continuation first.written.more ++ x)) first.written.first
     (flat_map encode_continuation first.written.more ++ x) = record { joined = refl; first = first.written.one_line } in
-    let names = header_name_unique input h.name _ k y cut second in
-    let lines = header_first_line_unique input h.name _ first.written.first _ k y cut line second in
+    let names = header_name_unique input h.name _ k y splits second in
+    let lines = header_first_line_unique input h.name _ first.written.first _ k y splits line second in
     let run = run_unique first.written.more second.written.more x y first.written.each_one_line second.written.each_one_line first.ends second.ends
     lines.1 in (
       header_eq_of_fields h k names.0 (first.written.value ∙ ap (λ (it : List ℕ). value_of_lines it first.written.more) lines.0

@@ -2,8 +2,8 @@
 use Rattle.std.proofs.Common.{◌≡◌, ◌≢◌, ◌≤◌, ℕ, List, [], ◌∷◌, ◌++◌, arith, length, refl, subst, ◌∙◌}
 use Rattle.std.proofs.lemmas.List.Elements.{All-nil, All-push}
 use Rattle.std.specs.Prelude.{Some, None, Result, Ok, Err}
-use Rattle.gixobj_fields.proofs.Runs.{passes_one, yields_passed}
-use Rattle.gixobj_fields.specs.Iterators.{FindsFault, FindsFirst, FindsNone, NextPiece, YieldsNone, PassesNone, ReadsFirst, ReadsNone, ReaderState}
+use Rattle.gixobj_fields.proofs.Runs.{begins_with_pieces_snoc, yields_of_begins_with_pieces}
+use Rattle.gixobj_fields.specs.Iterators.{FindsFault, FindsFirst, FindsNone, NextPiece, YieldsNone, BeginsWithOtherPieces, ReadsFirst, ReadsNone, ReaderState}
 use Rattle.gixobj_fields.specs.Runs.{IsPieceError, Yields, broken, complete, yields_end, yields_error}
 use Rattle.gixobj_hash.specs.declared.decode.Error.{Error}
 use Rattle.gixobj_hash.specs.declared.decode.Error.TheVariants.{Malformed, OutOfMemory}
@@ -14,12 +14,12 @@ module _ {R K S P T : Type 0} (status : R → ReaderState K S) (Has : K → S �
     → length rest ≤ length input) where
   -- the iterator consumed pieces that do not satisfy `Is`, from the first state to the current one
   pub record SearchInvariant (Is : P → Type 0) (reader at : R) : Type 0 where
-    pub passes : PassesNone status Has Is reader (status at).state (status at).bytes
+    pub begins_with : BeginsWithOtherPieces status Has Is reader (status at).state (status at).bytes
     pub same_kind : (status at).kind ≡ (status reader).kind
     pub less : length (status at).bytes ≤ length (status reader).bytes
 
   pub search_start : (Is : P → Type 0) (reader : R) → SearchInvariant Is reader reader
-  search_start Is reader = record { passes = ([], (refl, refl), All-nil (λ piece. ¬ Is piece)); same_kind = refl; less = omega arith }
+  search_start Is reader = record { begins_with = ([], (refl, refl), All-nil (λ piece. ¬ Is piece)); same_kind = refl; less = omega arith }
 
   -- the next piece is decoded by the first iterator's kind of ids
   piece_there : (Is : P → Type 0) (reader at after : R) (item : Result T Error) (piece : T) → SearchInvariant Is reader at
@@ -36,15 +36,16 @@ module _ {R K S P T : Type 0} (status : R → ReaderState K S) (Has : K → S �
   pub search_on : (Is : P → Type 0) (reader at after : R) (item : Result T Error) (piece : T) → SearchInvariant Is reader at
       → NextPiece status Has Wants view IsSuch at (Some item) after → item ≡ Ok piece → ¬ Is (view piece) → SearchInvariant Is reader after
   search_on Is reader at after item piece searches gives ok other =
-      let passed = searches.passes in
+      let consumed = searches.begins_with in
       let there = piece_there Is reader at after item piece searches gives ok in
       let less = no_longer (status reader).kind (status at).state (status at).bytes (view piece) (status after).state (status after).bytes there.0 in
       record {
-        passes = (
-          passed.0 ++ view piece ∷ [],
-          passes_one (Has (status reader).kind) (status reader).state (status at).state (status after).state (status reader).bytes (status at).bytes
-              (status after).bytes passed.0 (view piece) passed.1 there.0,
-          All-push (λ it. ¬ Is it) passed.0 (view piece) passed.2 other,
+        begins_with = (
+          consumed.0 ++ view piece ∷ [],
+          begins_with_pieces_snoc (Has (status reader).kind) (status reader).state (status at).state (status after).state (status reader).bytes
+              (status at).bytes
+              (status after).bytes consumed.0 (view piece) consumed.1 there.0,
+          All-push (λ it. ¬ Is it) consumed.0 (view piece) consumed.2 other,
         );
         same_kind = there.1;
         less = omega (arith, less, searches.less);
@@ -59,7 +60,7 @@ module _ {R K S P T : Type 0} (status : R → ReaderState K S) (Has : K → S �
     (status after).state,
     (status at).bytes,
     (status after).bytes,
-    searches.passes,
+    searches.begins_with,
     (piece_there Is reader at after item piece searches gives ok).0,
   )
 
@@ -68,7 +69,7 @@ module _ {R K S P T : Type 0} (status : R → ReaderState K S) (Has : K → S �
       → ReadsFirst status Has Is This reader after
   reads_first Is This reader at after item piece searches gives ok this =
       let there = piece_there Is reader at after item piece searches gives ok in
-      ((status at).state, (status at).bytes, view piece, searches.passes, there.0, this, there.1)
+      ((status at).state, (status at).bytes, view piece, searches.begins_with, there.0, this, there.1)
 
   -- ---- an error is returned
 
@@ -82,15 +83,15 @@ module _ {R K S P T : Type 0} (status : R → ReaderState K S) (Has : K → S �
       × IsPieceError (Has (status reader).kind) (Wants (status reader).kind) (status at).state (status at).bytes error
       → FindsFault status Has Wants Is reader error
   fault_of Is reader at Malformed searches rejected =
-      let passed = searches.passes in
+      let consumed = searches.begins_with in
       let yields : Yields (Has (status reader).kind) (status at).state (status at).bytes [] broken =
       yields_error (status at).state (status at).bytes rejected.0 rejected.1 in (
-        passed.0,
-        yields_passed (Has (status reader).kind) (status reader).state (status at).state (status reader).bytes
-            (status at).bytes passed.0 broken passed.1 yields,
-        passed.2,
+        consumed.0,
+        yields_of_begins_with_pieces (Has (status reader).kind) (status reader).state (status at).state (status reader).bytes
+            (status at).bytes consumed.0 broken consumed.1 yields,
+        consumed.2,
       )
-  fault_of Is reader at OutOfMemory searches rejected = ((status at).state, (status at).bytes, searches.passes, rejected.1)
+  fault_of Is reader at OutOfMemory searches rejected = ((status at).state, (status at).bytes, searches.begins_with, rejected.1)
 
   none_of_fault : (Is : P → Type 0) (reader : R) (error : Error) → FindsFault status Has Wants Is reader error → FindsNone status Has Wants Is reader error
   none_of_fault Is reader Malformed fault = (broken, fault)
@@ -122,12 +123,12 @@ module _ {R K S P T : Type 0} (status : R → ReaderState K S) (Has : K → S �
   pub search_ends : (Is : P → Type 0) (reader at after : R) → SearchInvariant Is reader at → NextPiece status Has Wants view IsSuch at None after
       → YieldsNone status Has Is reader complete
   search_ends Is reader at after searches gives =
-      let passed = searches.passes in
+      let consumed = searches.begins_with in
       let yields : Yields (Has (status reader).kind) (status at).state (status at).bytes [] complete = rw gives.0 (yields_end (status at).state) in (
-        passed.0,
-        yields_passed (Has (status reader).kind) (status reader).state (status at).state (status reader).bytes
-            (status at).bytes passed.0 complete passed.1 yields,
-        passed.2,
+        consumed.0,
+        yields_of_begins_with_pieces (Has (status reader).kind) (status reader).state (status at).state (status reader).bytes
+            (status at).bytes consumed.0 complete consumed.1 yields,
+        consumed.2,
       )
 
   pub reads_end : (Is : P → Type 0) (reader at after : R) → SearchInvariant Is reader at → NextPiece status Has Wants view IsSuch at None after

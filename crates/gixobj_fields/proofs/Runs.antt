@@ -2,7 +2,7 @@
 use Rattle.std.proofs.Common.{◌≡◌, ℕ, List, [], ◌∷◌, ◌++◌, refl, sym, ap, subst, ◌∙◌}
 use Rattle.std.proofs.lemmas.List.Elements.{All-head, All-tail}
 use Rattle.std.specs.List.{AllZip, concat}
-use Rattle.gixobj_fields.specs.Runs.{Ending, HasNone, Passes, Yields, complete, yields_end, yields_error, yields_piece}
+use Rattle.gixobj_fields.specs.Runs.{Ending, HasNone, BeginsWithPieces, Yields, complete, yields_end, yields_error, yields_piece}
 
 -- ---- pieces that satisfy a predicate
 
@@ -15,18 +15,21 @@ module _ {P : Type 0} (Is : P → Type 0) where
 module _ {S P : Type 0} (Has : S → List ℕ → P → S → List ℕ → Type 0) where
   -- ---- consumed pieces
 
-  pub passes_one : (before next following : S) (input after rest : List ℕ) (pieces : List P) (piece : P) → Passes Has before input pieces next after
+  pub begins_with_pieces_snoc : (before next following : S) (input after rest : List ℕ) (pieces : List P) (piece : P)
+      → BeginsWithPieces Has before input pieces next after
       → Has next after piece following rest
-      → Passes Has before input (pieces ++ piece ∷ []) following rest
-  passes_one before next following input after rest [] piece (same_state, same_input) has = (following, rest, rw (same_state, same_input) has, (refl, refl))
-  passes_one before next following input after rest (first ∷ pieces) piece (middle, further, it, more) has =
-      (middle, further, it, passes_one middle next following further after rest pieces piece more has)
+      → BeginsWithPieces Has before input (pieces ++ piece ∷ []) following rest
+  begins_with_pieces_snoc before next following input after rest [] piece (same_state, same_input) has =
+      (following, rest, rw (same_state, same_input) has, (refl, refl))
+  begins_with_pieces_snoc before next following input after rest (first ∷ pieces) piece (middle, further, it, more) has =
+      (middle, further, it, begins_with_pieces_snoc middle next following further after rest pieces piece more has)
 
-  pub yields_passed : (before following : S) (input rest : List ℕ) (pieces : List P) (ending : Ending) → Passes Has before input pieces following rest
+  pub yields_of_begins_with_pieces : (before following : S) (input rest : List ℕ) (pieces : List P) (ending : Ending)
+      → BeginsWithPieces Has before input pieces following rest
       → Yields Has following rest [] ending → Yields Has before input pieces ending
-  yields_passed before following input rest [] ending (same_state, same_input) yields = rw (same_state, same_input) yields
-  yields_passed before following input rest (piece ∷ pieces) ending (middle, further, it, more) yields =
-      yields_piece before middle input further piece pieces ending it (yields_passed middle following further rest pieces ending more yields)
+  yields_of_begins_with_pieces before following input rest [] ending (same_state, same_input) yields = rw (same_state, same_input) yields
+  yields_of_begins_with_pieces before following input rest (piece ∷ pieces) ending (middle, further, it, more) yields =
+      yields_piece before middle input further piece pieces ending it (yields_of_begins_with_pieces middle following further rest pieces ending more yields)
 
   -- ---- encodings
 
@@ -85,11 +88,12 @@ module _ {S P : Type 0} (Has : S → List ℕ → P → S → List ℕ → Type 
         }
 
     -- the run after consumed pieces yields the other pieces
-    pub after_passed : (before following : S) (input rest : List ℕ) (prefix all : List P) (ending : Ending) → Passes Has before input prefix following rest
+    pub yields_after_pieces : (before following : S) (input rest : List ℕ) (prefix all : List P) (ending : Ending)
+        → BeginsWithPieces Has before input prefix following rest
         → Yields Has before input all ending → GoesOn prefix all following rest ending
-    after_passed before following input rest [] all ending (same_state, same_input) yields =
+    yields_after_pieces before following input rest [] all ending (same_state, same_input) yields =
         record { others = all; joined = refl; yielded = rw (← same_state, ← same_input) yields }
-    after_passed before following input rest (piece ∷ prefix) all ending (next, after, has, more) yields =
+    yields_after_pieces before following input rest (piece ∷ prefix) all ending (next, after, has, more) yields =
         let first = after_first before next input after piece all ending has yields in
-        let further = after_passed next following after rest prefix first.others ending more first.yielded in
+        let further = yields_after_pieces next following after rest prefix first.others ending more first.yielded in
         record { others = further.others; joined = first.joined ∙ ap (λ (it : List P). piece ∷ it) further.joined; yielded = further.yielded }

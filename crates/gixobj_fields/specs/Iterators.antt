@@ -13,8 +13,9 @@ pub record ReaderState (K S : Type 0) : Type 0 where
 
 module _ {R K S P : Type 0} (status : R → ReaderState K S) (Has : K → S → List ℕ → P → S → List ℕ → Type 0) where
   -- the iterator consumes pieces that do not satisfy `Is`, and reaches this state and these bytes
-  abbrev pub PassesNone : (P → Type 0) → R → S → List ℕ → Type 0
-  PassesNone Is reader following rest = runs.PassesNone (Has (status reader).kind) Is (status reader).state
+  abbrev pub BeginsWithOtherPieces : (P → Type 0) → R → S → List ℕ → Type 0
+  BeginsWithOtherPieces Is reader following rest = runs.BeginsWithOtherPieces (Has (status reader).kind) Is
+      (status reader).state
       (status reader).bytes following rest
 
   -- the piece follows pieces that do not satisfy `Is`
@@ -29,7 +30,8 @@ module _ {R K S P : Type 0} (status : R → ReaderState K S) (Has : K → S → 
 
   -- the iterator consumed pieces that do not satisfy `Is`, and then one that satisfies `This`
   abbrev pub ReadsFirst : (P → Type 0) → (P → Type 0) → R → R → Type 0
-  ReadsFirst Is This before after = (state : S) × (input : List ℕ) × (piece : P) × PassesNone Is before state input
+  ReadsFirst Is This before after = (state : S) × (input : List ℕ) × (piece : P)
+      × BeginsWithOtherPieces Is before state input
       × Has (status before).kind state input piece (status after).state (status after).bytes × This piece
       × ((status after).kind ≡ (status before).kind)
 
@@ -50,7 +52,7 @@ module _ {R K S P : Type 0} (status : R → ReaderState K S) (Has : K → S → 
 
     -- after pieces that do not satisfy `Is` comes one that allocates
     abbrev pub FailsToAllocate : (P → Type 0) → R → Type 0
-    FailsToAllocate Is reader = (before : S) × (input : List ℕ) × PassesNone Is reader before input
+    FailsToAllocate Is reader = (before : S) × (input : List ℕ) × BeginsWithOtherPieces Is reader before input
         × Wants (status reader).kind before input
 
     -- the error of a search that needs a piece; Malformed: the run yields none; OutOfMemory: a piece up to it

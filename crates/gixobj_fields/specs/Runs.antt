@@ -32,20 +32,21 @@ module _ {S P : Type 0} (Has : S → List ℕ → P → S → List ℕ → Type 
         → Yields before input (piece ∷ pieces) ending
 
   -- the input begins with these pieces, and the rest follows in the state after them
-  abbrev pub Passes : S → List ℕ → List P → S → List ℕ → Type 0
-  Passes before input [] following rest = (before ≡ following) × (input ≡ rest)
-  Passes before input (piece ∷ pieces) following rest = (next : S) × (after : List ℕ)
-      × Has before input piece next after × Passes next after pieces following rest
+  abbrev pub BeginsWithPieces : S → List ℕ → List P → S → List ℕ → Type 0
+  BeginsWithPieces before input [] following rest = (before ≡ following) × (input ≡ rest)
+  BeginsWithPieces before input (piece ∷ pieces) following rest = (next : S) × (after : List ℕ)
+      × Has before input piece next after × BeginsWithPieces next after pieces following rest
 
   -- the input begins with pieces that do not satisfy `Is`, and the rest follows in the state after them
-  abbrev pub PassesNone : (P → Type 0) → S → List ℕ → S → List ℕ → Type 0
-  PassesNone Is before input following rest = (pieces : List P) × Passes before input pieces following rest
+  abbrev pub BeginsWithOtherPieces : (P → Type 0) → S → List ℕ → S → List ℕ → Type 0
+  BeginsWithOtherPieces Is before input following rest =
+      (pieces : List P) × BeginsWithPieces before input pieces following rest
       × HasNone Is pieces
 
   -- the piece follows pieces that do not satisfy `Is`
   abbrev pub FindsFirst : (P → Type 0) → S → List ℕ → P → Type 0
   FindsFirst Is start input piece = (before following : S) × (here rest : List ℕ)
-      × PassesNone Is start input before here × Has before here piece following rest
+      × BeginsWithOtherPieces Is start input before here × Has before here piece following rest
 
   -- the complete run yields no piece that satisfies `Is`, and has this ending
   abbrev pub YieldsNone : (P → Type 0) → S → List ℕ → Ending → Type 0

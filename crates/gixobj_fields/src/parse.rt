@@ -59,13 +59,13 @@ pub fn header_id<'a>(input: &'a [u8], name: &[u8], kind: Kind) -> Option<(BStr<'
 /// Splits at the newline at this position, or returns `None` if another byte or none is there.
 #[inline(always)]
 #[tactic(auto, using(crate::proofs::HeaderFields::take_cons_drop))]
-fn split_at_newline(bytes: &[u8], place: usize) -> Option<(&[u8], &[u8])>
+fn split_at_newline(bytes: &[u8], index: usize) -> Option<(&[u8], &[u8])>
     ensures split { IfSome result (λ parts. bytes.now ≡ parts.0.now ++ newline ∷ parts.1.now) }
-    ensures placed { IfSome result (λ parts. length parts.0.now ≡ place) }
-    ensures none { IfNone result (slice_index bytes.now place ≢ newline) }
+    ensures position { IfSome result (λ parts. length parts.0.now ≡ index) }
+    ensures none { IfNone result (slice_index bytes.now index ≢ newline) }
 {
-    match bytes.get(place) {
-        Some(b'\n') => Some((&bytes[..place], &bytes[place + 1..])),
+    match bytes.get(index) {
+        Some(b'\n') => Some((&bytes[..index], &bytes[index + 1..])),
         _ => None,
     }
 }

@@ -11,7 +11,12 @@ use crate::streams::Source;
 pub const BUFFER_LEN: usize = 8192;
 
 /// Reads some of the next `most` bytes of a source into the beginning of the buffer, and returns their
-/// number, which is at least 1.
+/// number, which is at least 1. Allocates nothing.
+///
+/// # Errors
+///
+/// - [`Error::Io`] if the read fails;
+/// - [`Error::UnexpectedEof`] if the source has ended.
 #[tactic(auto, using(crate::proofs::StreamReads::stream_error_of_read, crate::proofs::StreamReads::stream_error_of_end, crate::proofs::StreamReads::consumes_take))]
 pub fn read_piece<S: Source>(source: &mut S, buffer: &mut [u8], most: u64) -> Result<usize, Error>
     requires positive { 0 < most }

@@ -1,4 +1,5 @@
--- The files of the open directories at and below a path, and of others that replace them: for cursors and `Everywhere`.
+-- The open directories at and below a path have the files there, and others that replace them change no other files:
+-- for cursors and `Everywhere`.
 use Rattle.std.proofs.Common.{◌≡◌, ◌≢◌, inl, inr, ℕ, ◌+◌, zero, suc, List, [], ◌∷◌, ◌++◌, append_assoc, append-nil, length, refl, sym, ap, subst, ◌∙◌, arith, Option, Some, None}
 use Rattle.std.specs.Prelude.{◌↔◌, IsTrue}
 use Rattle.gixobj_tree.specs.Entries.{EntryView}
@@ -107,9 +108,10 @@ is_opened_with_path (name ∷ rest) inner dirs all there within =
     is_opened_with_dir name (with_path rest inner (in_dir name dirs)) dirs
     (is_opened_with_path rest inner (in_dir name dirs) (is_opened_in_dir name dirs down.0 down.1 all) there within) all down.2
 
-pub is_opened_with_only : (prefix : Path) (own : List EntryView) (dirs : Dirs) → IsOpened dirs → dirs prefix ≢ None → IsWellFormed own
-    → IsOpened (with_path prefix (only_open own) dirs)
-is_opened_with_only prefix own dirs all there formed = is_opened_with_path prefix (only_open own) dirs all there (is_opened_of_only own formed)
+pub is_opened_with_only : (prefix : Path) (written_tree : List EntryView) (dirs : Dirs) → IsOpened dirs → dirs prefix ≢ None → IsWellFormed written_tree
+    → IsOpened (with_path prefix (only_open written_tree) dirs)
+is_opened_with_only prefix written_tree dirs all there formed = is_opened_with_path prefix (only_open written_tree) dirs all there
+    (is_opened_of_only written_tree formed)
 
 -- at and below the path the directories are the replacement, and elsewhere they are unchanged
 pub with_path_at_prefix : (prefix : Path) (inner dirs : Dirs) (at : Path) → with_path prefix inner dirs (prefix ++ at) ≡ inner at

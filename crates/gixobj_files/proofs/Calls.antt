@@ -84,15 +84,15 @@ module _ (P : OfEntry) (trees : Trees) (kind : Kind) (lasts : Lasts P trees (nul
       everywhere_congruent P new (opened_bases old new bases) new remaining (λ at. refl) bases_are
       (everywhere_opened P trees (null_id kind) lasts path old new looked_up opens bases all)
 
-  after_write : (prefix : Path) (own : List EntryView) → old prefix ≢ None → ((e : EntryView) → ContainsEntry own e → P e None None)
-      → ((at : Path) → new at ≡ with_path prefix (only_open own) old at) → ((at : Path) → remaining at ≡ edited_bases old new bases at)
+  after_write : (prefix : Path) (written_tree : List EntryView) → old prefix ≢ None → ((e : EntryView) → ContainsEntry written_tree e → P e None None)
+      → ((at : Path) → new at ≡ with_path prefix (only_open written_tree) old at) → ((at : Path) → remaining at ≡ edited_bases old new bases at)
       → Everywhere P new remaining
-  after_write prefix own there each dirs_are bases_are =
-      let made : Dirs = with_path prefix (only_open own) old in
+  after_write prefix written_tree there each dirs_are bases_are =
+      let made : Dirs = with_path prefix (only_open written_tree) old in
       let remaining_is : (at : Path) → remaining at ≡ edited_bases old made bases at =
       subst (λ (d : Dirs). (at : Path) → remaining at ≡ edited_bases old d bases at) (λ i at. dirs_are at i) bases_are in
       everywhere_congruent P made (edited_bases old made bases) new remaining dirs_are remaining_is
-      (lasts_written P trees (null_id kind) lasts old bases is_opened all prefix own there each)
+      (lasts_written P trees (null_id kind) lasts old bases is_opened all prefix written_tree there each)
 
 -- each base agrees with every table that agrees with the store
 module _ (T : Table) (trees : Trees) (kind : Kind) (old bases new remaining : Dirs) (was : AreOpenedOn old bases) (agrees : AgreesWithStore T trees)
@@ -174,18 +174,20 @@ module _ (trees : Trees) (kind : Kind) (old bases new remaining : Dirs) (was : A
 abbrev no_trees : Trees
 no_trees = λ id. None
 
-module _ (old bases new remaining : Dirs) (was : AreOpenedOn old bases) (prefix : Path) (own : List EntryView) (there : old prefix ≢ None)
-    (dirs_are : (at : Path) → new at ≡ with_path prefix (only_open own) old at) (bases_are : (at : Path) → remaining at ≡ edited_bases old new bases at) where
+module _ (old bases new remaining : Dirs) (was : AreOpenedOn old bases) (prefix : Path) (written_tree : List EntryView) (there : old prefix ≢ None)
+    (dirs_are : (at : Path) → new at ≡ with_path prefix (only_open written_tree) old at) (bases_are : (at : Path)
+    → remaining at ≡ edited_bases old new bases at) where
   pub written_based : (T : Table) → HasBases T old bases → HasBases T new remaining
   written_based T has =
       let lasting : Lasts (Based T) no_trees (null_id hash.Sha1) = based_is_lasting T no_trees (null_id hash.Sha1)
       (λ id entries searched is. absurd (cc is)) refl in
       has_bases_of_everywhere T new remaining
-      (after_write (Based T) no_trees hash.Sha1 lasting old bases new remaining was.opened (everywhere_based T old bases was.null_based has) prefix own there
+      (after_write (Based T) no_trees hash.Sha1 lasting old bases new remaining was.opened
+      (everywhere_based T old bases was.null_based has) prefix written_tree there
       (λ e h list is. absurd (cc is)) dirs_are bases_are)
 
   pub written_null_based : AreNullBased new remaining
   written_null_based =
       are_null_based_of_everywhere new remaining (after_write NullBased no_trees hash.Sha1
       (null_based_is_lasting no_trees (null_id hash.Sha1)) old bases new remaining was.opened
-      (everywhere_null_based old bases was.null_based) prefix own there (λ e h list is. absurd (cc is)) dirs_are bases_are)
+      (everywhere_null_based old bases was.null_based) prefix written_tree there (λ e h list is. absurd (cc is)) dirs_are bases_are)

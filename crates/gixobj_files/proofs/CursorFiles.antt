@@ -29,38 +29,40 @@ ensured_dirs_files T trees agrees path null old mid looked_up opens n =
     (ensured_congruent path (OpenFiles T n mid) (OpenFiles T n old) (opens_keeps_files T trees agrees path old mid looked_up opens n))
 
 -- the written tree of the directory at a path has the files of the directories at and below it
-written_tree_files_at_prefix : (T : Table) (prefix : Path) (dirs bases : Dirs) (below : List Pair) (own : List EntryView) (saved : ℕ) (id : ObjectId)
+written_tree_files_at_prefix : (T : Table) (prefix : Path) (dirs bases : Dirs) (below : List Pair) (written_tree : List EntryView) (saved : ℕ) (id : ObjectId)
     → IsOpened dirs
-    → Everywhere (Based T) dirs bases → dirs prefix ≢ None → EmitsBelow (in_path prefix dirs) (in_path prefix bases) below own saved
-    → AgreesWithPairs T (below ++ (id, own) ∷ [])
-    → (n : ℕ) → SameFiles (Files T n own) (OpenFiles T n (in_path prefix dirs))
-written_tree_files_at_prefix T prefix dirs bases below own saved id all based there going agrees =
-    emits_below_files T (in_path prefix dirs) (in_path prefix bases) below own saved going
+    → Everywhere (Based T) dirs bases → dirs prefix ≢ None → EmitsBelow (in_path prefix dirs) (in_path prefix bases) below written_tree saved
+    → AgreesWithPairs T (below ++ (id, written_tree) ∷ [])
+    → (n : ℕ) → SameFiles (Files T n written_tree) (OpenFiles T n (in_path prefix dirs))
+written_tree_files_at_prefix T prefix dirs bases below written_tree saved id all based there going agrees =
+    emits_below_files T (in_path prefix dirs) (in_path prefix bases) below written_tree saved going
     (are_trees_of_opened (in_path prefix dirs) (is_opened_in_path prefix dirs all there))
     (everywhere_in_path (Based T) prefix dirs bases based)
-    (known_append_left T below ((id, own) ∷ []) (recursion_from_All (λ (p : Pair). T.tree_at p.0 ≡ Some p.1) (below ++ (id, own) ∷ []) agrees))
+    (known_append_left T below ((id, written_tree) ∷ []) (recursion_from_All (λ (p : Pair). T.tree_at p.0 ≡ Some p.1)
+    (below ++ (id, written_tree) ∷ []) agrees))
 
 -- the id of a written directory names the files below its path
-pub written_id_files_below_prefix : (T : Table) (n : ℕ) (prefix : Path) (dirs bases : Dirs) (below : List Pair) (own : List EntryView)
+pub written_id_files_below_prefix : (T : Table) (n : ℕ) (prefix : Path) (dirs bases : Dirs) (below : List Pair) (written_tree : List EntryView)
     (saved : ℕ) (id : ObjectId)
-    → IsOpened dirs → Everywhere (Based T) dirs bases → dirs prefix ≢ None → EmitsBelow (in_path prefix dirs) (in_path prefix bases) below own saved
-    → AgreesWithPairs T (below ++ (id, own) ∷ [])
+    → IsOpened dirs → Everywhere (Based T) dirs bases → dirs prefix ≢ None → EmitsBelow (in_path prefix dirs) (in_path prefix bases) below written_tree saved
+    → AgreesWithPairs T (below ++ (id, written_tree) ∷ [])
     → SameFiles (NamedFiles T n id) (λ path. OpenFiles T (n + length prefix) dirs (prefix ++ path))
-written_id_files_below_prefix T n prefix dirs bases below own saved id all based there going agrees =
+written_id_files_below_prefix T n prefix dirs bases below written_tree saved id all based there going agrees =
     let inner : Dirs = in_path prefix dirs in
-    let named : T.tree_at id ≡ Some own =
-    (known_append_right T below ((id, own) ∷ []) (recursion_from_All (λ (p : Pair). T.tree_at p.0 ≡ Some p.1) (below ++ (id, own) ∷ []) agrees)).0 in
+    let named : T.tree_at id ≡ Some written_tree =
+    (known_append_right T below ((id, written_tree) ∷ []) (recursion_from_All (λ (p : Pair). T.tree_at p.0 ≡ Some p.1)
+    (below ++ (id, written_tree) ∷ []) agrees)).0 in
     let files : SameFiles (NamedFiles T n id) (OpenFiles T n inner) =
     subst (λ (o : Option (List EntryView)). SameFiles (λ path mode it. MatchOption o ⊥ (λ es. Files T n es path mode it)) (OpenFiles T n inner)) (sym named)
-    (written_tree_files_at_prefix T prefix dirs bases below own saved id all based there going agrees n) in
+    (written_tree_files_at_prefix T prefix dirs bases below written_tree saved id all based there going agrees n) in
     same_files_trans _ _ _ files (files_in_path T n prefix dirs all there)
 
 -- a write leaves open directories with the same files
-pub write_keeps_files : (T : Table) (n : ℕ) (prefix : Path) (dirs bases : Dirs) (below : List Pair) (own : List EntryView) (saved : ℕ) (id : ObjectId)
-    → IsOpened dirs → Everywhere (Based T) dirs bases → dirs prefix ≢ None → EmitsBelow (in_path prefix dirs) (in_path prefix bases) below own saved
-    → AgreesWithPairs T (below ++ (id, own) ∷ [])
-    → SameFiles (OpenFiles T n (with_path prefix (only_open own) dirs)) (OpenFiles T n dirs)
-write_keeps_files T n prefix dirs bases below own saved id all based there going agrees =
-    files_with_same_inner T prefix (only_open own) dirs all there (λ none. cc none)
-    (λ k. same_files_trans _ _ _ (open_files_of_root_alone T k (only_open own) own refl (λ name. refl))
-    (written_tree_files_at_prefix T prefix dirs bases below own saved id all based there going agrees k)) n
+pub write_keeps_files : (T : Table) (n : ℕ) (prefix : Path) (dirs bases : Dirs) (below : List Pair) (written_tree : List EntryView) (saved : ℕ) (id : ObjectId)
+    → IsOpened dirs → Everywhere (Based T) dirs bases → dirs prefix ≢ None → EmitsBelow (in_path prefix dirs) (in_path prefix bases) below written_tree saved
+    → AgreesWithPairs T (below ++ (id, written_tree) ∷ [])
+    → SameFiles (OpenFiles T n (with_path prefix (only_open written_tree) dirs)) (OpenFiles T n dirs)
+write_keeps_files T n prefix dirs bases below written_tree saved id all based there going agrees =
+    files_with_same_inner T prefix (only_open written_tree) dirs all there (λ none. cc none)
+    (λ k. same_files_trans _ _ _ (open_files_of_root_alone T k (only_open written_tree) written_tree refl (λ name. refl))
+    (written_tree_files_at_prefix T prefix dirs bases below written_tree saved id all based there going agrees k)) n

@@ -1,4 +1,5 @@
--- The entry of a name: the file of the name, or else the directory of it.
+-- The entry of a name is the file of the name, or else the directory of it; the proofs of `Entries::find`, `find_tree`
+-- and `remove_named` use it.
 use Rattle.std.proofs.Common.{◌≡◌, ◌≢◌, ◌∙◌, ◌<◌, ℕ, length, arith, Bool, true, false, not, cond, Contains, List, [], ◌∷◌, Option, Some, None, refl, sym, ap, subst}
 use mathlib.Core.Bool.{true≢false}
 use Rattle.std.specs.Prelude.{◌&&◌}

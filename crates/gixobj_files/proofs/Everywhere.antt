@@ -298,22 +298,24 @@ module _ (P : OfEntry) (trees : Trees) (null : ObjectId) (lasts : Lasts P trees 
       (λ e h other. h) (everywhere_removed (next ∷ rest) (in_dir name dirs) (in_dir name bases) (λ q. all (name ∷ q))) all
 
   -- a write keeps the property, if the written tree is open alone at its path
-  replaced_here : (rest : Path) (own : List EntryView) (dirs : Dirs) (e : EntryView) (base : Option (List EntryView)) → dirs rest ≢ None
+  replaced_here : (rest : Path) (written_tree : List EntryView) (dirs : Dirs) (e : EntryView) (base : Option (List EntryView)) → dirs rest ≢ None
       → P e (dirs []) base
-      → P e (with_path rest (only_open own) dirs []) (base_edited (dirs []) (with_path rest (only_open own) dirs []) base)
-  replaced_here [] own dirs e base there p = let was = list_at_open_prefix (dirs []) there in stays_open e (dirs []) (Some own) base was.0 own was.1 refl p
-  replaced_here (name ∷ rest) own dirs e base there p = edited e (dirs []) base p
+      → P e (with_path rest (only_open written_tree) dirs []) (base_edited (dirs []) (with_path rest (only_open written_tree) dirs []) base)
+  replaced_here [] written_tree dirs e base there p = let was = list_at_open_prefix (dirs []) there in
+      stays_open e (dirs []) (Some written_tree) base was.0 written_tree was.1 refl p
+  replaced_here (name ∷ rest) written_tree dirs e base there p = edited e (dirs []) base p
 
-  pub everywhere_written : (prefix : Path) (own : List EntryView) (dirs bases : Dirs) → dirs prefix ≢ None
-      → ((e : EntryView) → ContainsEntry own e → P e None None)
+  pub everywhere_written : (prefix : Path) (written_tree : List EntryView) (dirs bases : Dirs) → dirs prefix ≢ None
+      → ((e : EntryView) → ContainsEntry written_tree e → P e None None)
       → Everywhere P dirs bases
-      → Everywhere P (with_path prefix (only_open own) dirs) (edited_bases dirs (with_path prefix (only_open own) dirs) bases)
-  everywhere_written [] own dirs bases there each all = by_level (only_open own) (edited_bases dirs (only_open own) bases) (λ e h. each e h)
+      → Everywhere P (with_path prefix (only_open written_tree) dirs) (edited_bases dirs (with_path prefix (only_open written_tree) dirs) bases)
+  everywhere_written [] written_tree dirs bases there each all = by_level (only_open written_tree) (edited_bases dirs (only_open written_tree) bases)
+      (λ e h. each e h)
       (λ first path e h. absurd h)
-  everywhere_written (name ∷ rest) own dirs bases there each all =
-      let below : Dirs = with_path rest (only_open own) (in_dir name dirs) in
-      edited_in name dirs (with_path (name ∷ rest) (only_open own) dirs) below bases (with_dir_in_dir name below dirs)
+  everywhere_written (name ∷ rest) written_tree dirs bases there each all =
+      let below : Dirs = with_path rest (only_open written_tree) (in_dir name dirs) in
+      edited_in name dirs (with_path (name ∷ rest) (only_open written_tree) dirs) below bases (with_dir_in_dir name below dirs)
       (λ first differ. with_dir_in_other_dir name first below dirs differ)
-      (λ e h called. replaced_here rest own (in_dir name dirs) e (bases (name ∷ [])) there
+      (λ e h called. replaced_here rest written_tree (in_dir name dirs) e (bases (name ∷ [])) there
       (subst (λ n. P e (dirs (n ∷ [])) (bases (n ∷ []))) called (all [] e h)))
-      (λ e h other. h) (everywhere_written rest own (in_dir name dirs) (in_dir name bases) there each (λ q. all (name ∷ q))) all
+      (λ e h other. h) (everywhere_written rest written_tree (in_dir name dirs) (in_dir name bases) there each (λ q. all (name ∷ q))) all

@@ -20,7 +20,7 @@ abbrev pub AreFilled : List EntryView → Type 0
 AreFilled es = AllByRecursion (λ e. IsFalse (is_null e.id)) es
 
 -- the filtered entries after an entry got this id: the rest filters what follows
-pub record Sifts (e : EntryView) (rest remaining : List EntryView) (id : ObjectId) (following : List EntryView) : Type 0 where
+pub record FiltersEntry (e : EntryView) (rest remaining : List EntryView) (id : ObjectId) (following : List EntryView) : Type 0 where
   pub here : non_null_entries (with_id e id ∷ []) ++ following ≡ remaining
   pub is_filtered : IsFilteredTree following rest
   pub filled : AreFilled following
@@ -45,11 +45,11 @@ with_id_of_with_id : (e x : EntryView) (id : ObjectId) → x ≡ with_id e id �
 with_id_of_with_id e x id is = ap (λ (y : EntryView). with_id e y.id) is ∙ sym is
 
 pub filters_step : (e : EntryView) (rest remaining : List EntryView) → AllByRecursion (λ y. e.name ≢ y.name) rest → AreFilled remaining
-    → IsFilteredTree remaining (e ∷ rest) → Sifts e rest remaining (id_among e.name remaining) (filtered_out e.name remaining)
+    → IsFilteredTree remaining (e ∷ rest) → FiltersEntry e rest remaining (id_among e.name remaining) (filtered_out e.name remaining)
 filters_step e rest [] apart filled (inl h) = record { here = refl; is_filtered = h; filled = tt }
 filters_step e rest [] apart filled (inr h) = absurd (cc h.2)
 filters_step e rest (x ∷ xs) apart filled h =
-    elim (same_name x.name e.name) as (λ b. same_name x.name e.name ≡ b → Sifts e rest (x ∷ xs) (cond b x.id (null_id Sha1)) (cond b xs (x ∷ xs))) [
+    elim (same_name x.name e.name) as (λ b. same_name x.name e.name ≡ b → FiltersEntry e rest (x ∷ xs) (cond b x.id (null_id Sha1)) (cond b xs (x ∷ xs))) [
       | true ↦ λ is. ⊎_elim (λ following. absurd (filtered_head_name_ne e.name x xs rest following apart (sym ((bytes_decides x.name e.name).0 is))))
           (λ (here : (id : ObjectId) × (more : List EntryView) × (x ∷ xs ≡ with_id e id ∷ more) × IsFilteredTree more rest). record {
             here = ap (λ (y : EntryView). non_null_entries (y ∷ []) ++ xs)
@@ -68,24 +68,26 @@ is_filtered_tree_cons : (e : EntryView) (id : ObjectId) (os es : List EntryView)
 is_filtered_tree_cons e id os es h = elim (is_null id) as (λ b. IsFilteredTree (cond b [] (with_id e id ∷ []) ++ os) (e ∷ es))
     [ true ↦ inl h | false ↦ inr (id, os, refl, h) ]
 
-is_filtered_tree_of_emits : (dirs bases : Dirs) (es : List EntryView) (ps : List Pair) (own : List EntryView) (n : ℕ) → EmitsEntries dirs bases es ps own n
-    → IsFilteredTree own es
-is_filtered_tree_of_emits dirs bases es ps own n (end d b) = refl
-is_filtered_tree_of_emits dirs bases es ps own n (unopened d b e rest below os m none walk) =
+is_filtered_tree_of_emits : (dirs bases : Dirs) (es : List EntryView) (ps : List Pair) (written_tree : List EntryView) (n : ℕ)
+    → EmitsEntries dirs bases es ps written_tree n
+    → IsFilteredTree written_tree es
+is_filtered_tree_of_emits dirs bases es ps written_tree n (end d b) = refl
+is_filtered_tree_of_emits dirs bases es ps written_tree n (unopened d b e rest below os m none walk) =
     is_filtered_tree_cons e e.id os rest (is_filtered_tree_of_emits d b rest below os m walk)
-is_filtered_tree_of_emits dirs bases es ps own n (left_out_if_empty d b e rest inner below os i m found walk) =
+is_filtered_tree_of_emits dirs bases es ps written_tree n (left_out_if_empty d b e rest inner below os i m found walk) =
     inl (is_filtered_tree_of_emits d b rest below os m walk)
-is_filtered_tree_of_emits dirs bases es ps own n (unchanged d b e first rest more inner below os i m found same walk) =
+is_filtered_tree_of_emits dirs bases es ps written_tree n (unchanged d b e first rest more inner below os i m found same walk) =
     is_filtered_tree_cons e e.id os rest (is_filtered_tree_of_emits d b rest below os m walk)
-is_filtered_tree_of_emits dirs bases es ps own n (written d b e first rest more inner below os i m id found changed walk) =
+is_filtered_tree_of_emits dirs bases es ps written_tree n (written d b e first rest more inner below os i m id found changed walk) =
     is_filtered_tree_cons e id os rest (is_filtered_tree_of_emits d b rest below os m walk)
 
 some_injective : (xs ys : List EntryView) → Some xs ≡ Some ys → xs ≡ ys
 some_injective xs ys is = cc is
 
 -- the written tree of a directory has some of its entries
-pub is_filtered_tree_of_walk : (dirs bases : Dirs) (ps : List Pair) (own : List EntryView) (n : ℕ) (es : List EntryView) → EmitsBelow dirs bases ps own n
-    → dirs [] ≡ Some es → IsFilteredTree own es
-is_filtered_tree_of_walk dirs bases ps own n es (of_entries d b items below os m is walk) there =
-    subst (IsFilteredTree own) (some_injective items es (sym is ∙ there))
-    (is_filtered_tree_of_emits d b items below own m walk)
+pub is_filtered_tree_of_walk : (dirs bases : Dirs) (ps : List Pair) (written_tree : List EntryView) (n : ℕ) (es : List EntryView)
+    → EmitsBelow dirs bases ps written_tree n
+    → dirs [] ≡ Some es → IsFilteredTree written_tree es
+is_filtered_tree_of_walk dirs bases ps written_tree n es (of_entries d b items below os m is walk) there =
+    subst (IsFilteredTree written_tree) (some_injective items es (sym is ∙ there))
+    (is_filtered_tree_of_emits d b items below written_tree m walk)

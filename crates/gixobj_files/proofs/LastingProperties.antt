@@ -52,6 +52,6 @@ module _ (P : OfEntry) (trees : Trees) (null : ObjectId) (lasts : Lasts P trees 
   lasts_removed head path opened looked_up opens = everywhere_removed P trees null lasts path opened (opened_bases old opened bases)
       (everywhere_opened P trees null lasts head old opened looked_up opens bases all)
 
-  pub lasts_written : (prefix : Path) (own : List EntryView) → old prefix ≢ None → ((e : EntryView) → ContainsEntry own e → P e None None)
-      → Everywhere P (with_path prefix (only_open own) old) (edited_bases old (with_path prefix (only_open own) old) bases)
-  lasts_written prefix own there each = everywhere_written P trees null lasts prefix own old bases there each all
+  pub lasts_written : (prefix : Path) (written_tree : List EntryView) → old prefix ≢ None → ((e : EntryView) → ContainsEntry written_tree e → P e None None)
+      → Everywhere P (with_path prefix (only_open written_tree) old) (edited_bases old (with_path prefix (only_open written_tree) old) bases)
+  lasts_written prefix written_tree there each = everywhere_written P trees null lasts prefix written_tree old bases there each all

@@ -1,4 +1,4 @@
--- Tables of chosen trees: those of a list, of a store, and of both. The laws of tables use it.
+-- A list of pairs, a store, and both together have a table of trees. The laws of tables use it.
 use Rattle.std.proofs.Common.{All, ◌≡◌, ◌≢◌, ◌⊎◌, inl, inr, ⊎_elim, Bool, true, false, List, [], ◌∷◌, ◌∙◌, refl, sym, ap, subst, Option, Some, None}
 use Rattle.std.specs.Fmt.{digits}
 use Rattle.std.specs.List.{AllByRecursion}

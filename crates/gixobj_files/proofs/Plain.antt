@@ -118,45 +118,46 @@ module _ (pairs : List Pair) where
       (has_non_null_cons e id os x h)
 
   mutual
-    pub emits_below_plain : (dirs bases : Dirs) (ps : List Pair) (own : List EntryView) (saved : ℕ) → EmitsBelow dirs bases ps own saved
+    pub emits_below_plain : (dirs bases : Dirs) (ps : List Pair) (written_tree : List EntryView) (saved : ℕ) → EmitsBelow dirs bases ps written_tree saved
         → Everywhere (Plain pairs) dirs bases → AllByRecursion (IsEmitted pairs) ps
-        → RestsOn pairs own × AllByRecursion (HasBuilt pairs) ps
-    emits_below_plain dirs bases ps own saved (of_entries d b es below os n is walk) all out =
+        → RestsOn pairs written_tree × AllByRecursion (HasBuilt pairs) ps
+    emits_below_plain dirs bases ps written_tree saved (of_entries d b es below os n is walk) all out =
         walk_plain d b es below os n walk (λ e h. all [] e (subst (λ o. HasAt o e) (sym is) h)) (λ first q. all (first ∷ q)) out
 
-    walk_plain : (dirs bases : Dirs) (es : List EntryView) (ps : List Pair) (own : List EntryView) (saved : ℕ) → EmitsEntries dirs bases es ps own saved
+    walk_plain : (dirs bases : Dirs) (es : List EntryView) (ps : List Pair) (written_tree : List EntryView) (saved : ℕ)
+        → EmitsEntries dirs bases es ps written_tree saved
         → ((e : EntryView) → ContainsEntry es e → IsPlain pairs e (dirs (e.name ∷ [])) (bases (e.name ∷ [])))
         → ((first : List ℕ) → Everywhere (Plain pairs) (in_dir first dirs) (in_dir first bases)) → AllByRecursion (IsEmitted pairs) ps
-        → RestsOn pairs own × AllByRecursion (HasBuilt pairs) ps
-    walk_plain dirs bases es ps own saved (end d b) here deeper out = ((λ e h. absurd h), tt)
-    walk_plain dirs bases es ps own saved (unopened d b e rest below os n none walk) here deeper out =
+        → RestsOn pairs written_tree × AllByRecursion (HasBuilt pairs) ps
+    walk_plain dirs bases es ps written_tree saved (end d b) here deeper out = ((λ e h. absurd h), tt)
+    walk_plain dirs bases es ps written_tree saved (unopened d b e rest below os n none walk) here deeper out =
         let w = walk_plain d b rest below os n walk (λ x h. here x (inr h)) deeper out in
         let mine = here e (inl refl) in
         (rests_more e e.id os (λ t. (mine.mode t, mine.its_pair t none)) w.0, w.1)
-    walk_plain dirs bases es ps own saved (left_out_if_empty d b e rest inner below os m n found walk) here deeper out =
+    walk_plain dirs bases es ps written_tree saved (left_out_if_empty d b e rest inner below os m n found walk) here deeper out =
         let w = walk_plain d b rest below os n walk (λ x h. here x (inr h)) deeper (all_right (IsEmitted pairs) inner below out) in
         let lower = emits_below_plain (in_dir e.name d) (in_dir e.name b) inner [] m found (deeper e.name) (all_remaining (IsEmitted pairs) inner below out) in
         (w.0, all_joined (HasBuilt pairs) inner below lower.1 w.1)
-    walk_plain dirs bases es ps own saved (unchanged d b e first rest more_own inner below os m n found same walk) here deeper out =
+    walk_plain dirs bases es ps written_tree saved (unchanged d b e first rest more_written inner below os m n found same walk) here deeper out =
         let w = walk_plain d b rest below os n walk (λ x h. here x (inr h)) deeper (all_right (IsEmitted pairs) inner below out) in
-        let lower = emits_below_plain (in_dir e.name d) (in_dir e.name b) inner (first ∷ more_own) m found (deeper e.name)
+        let lower = emits_below_plain (in_dir e.name d) (in_dir e.name b) inner (first ∷ more_written) m found (deeper e.name)
         (all_remaining (IsEmitted pairs) inner below out) in
         let mine = here e (inl refl) in
-        let some : first ∷ more_own ≢ [] = λ none. cc none in
-        let it = mine.based (first ∷ more_own) same some in (
-          rests_more e e.id os (λ t. (mine.mode t, record { tree = first ∷ more_own; filled = some; named = it.0; is_built = it.1 })) w.0,
+        let some : first ∷ more_written ≢ [] = λ none. cc none in
+        let it = mine.based (first ∷ more_written) same some in (
+          rests_more e e.id os (λ t. (mine.mode t, record { tree = first ∷ more_written; filled = some; named = it.0; is_built = it.1 })) w.0,
           all_joined
               (HasBuilt pairs) inner below lower.1 w.1,
         )
-    walk_plain dirs bases es ps own saved (written d b e first rest more_own inner below os m n named_id found differ walk) here deeper out =
-        let pair = all_right (IsEmitted pairs) inner ((named_id, first ∷ more_own) ∷ below) out in
+    walk_plain dirs bases es ps written_tree saved (written d b e first rest more_written inner below os m n named_id found differ walk) here deeper out =
+        let pair = all_right (IsEmitted pairs) inner ((named_id, first ∷ more_written) ∷ below) out in
         let w = walk_plain d b rest below os n walk (λ x h. here x (inr h)) deeper pair.1 in
-        let lower = emits_below_plain (in_dir e.name d) (in_dir e.name b) inner (first ∷ more_own) m found (deeper e.name)
-        (all_remaining (IsEmitted pairs) inner ((named_id, first ∷ more_own) ∷ below) out) in
+        let lower = emits_below_plain (in_dir e.name d) (in_dir e.name b) inner (first ∷ more_written) m found (deeper e.name)
+        (all_remaining (IsEmitted pairs) inner ((named_id, first ∷ more_written) ∷ below) out) in
         let mine = here e (inl refl) in
-        let some : first ∷ more_own ≢ [] = λ none. cc none in
-        let is : IsBuilt pairs (first ∷ more_own) = is_built_of_rests_on pairs (first ∷ more_own) (pair.0.1) lower.0 in (
-          rests_more e named_id os (λ t. (mine.mode t, record { tree = first ∷ more_own; filled = some; named = pair.0.0; is_built = is })) w.0,
+        let some : first ∷ more_written ≢ [] = λ none. cc none in
+        let is : IsBuilt pairs (first ∷ more_written) = is_built_of_rests_on pairs (first ∷ more_written) (pair.0.1) lower.0 in (
+          rests_more e named_id os (λ t. (mine.mode t, record { tree = first ∷ more_written; filled = some; named = pair.0.0; is_built = is })) w.0,
           all_joined
-              (HasBuilt pairs) inner ((named_id, first ∷ more_own) ∷ below) lower.1 (is, w.1),
+              (HasBuilt pairs) inner ((named_id, first ∷ more_written) ∷ below) lower.1 (is, w.1),
         )

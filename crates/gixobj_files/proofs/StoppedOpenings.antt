@@ -1,5 +1,5 @@
--- An opening that stopped with an error: the directories opened before, the number of ids looked up, and where it
--- stopped. The editor's failed calls use it.
+-- An opening that stopped with an error has opened the directories before it, counted their lookups, and stopped at the
+-- error's directory. The editor's failed calls use it.
 use Rattle.std.proofs.Common.{◌≡◌, inl, inr, ℕ, ◌≤◌, true, false, List, [], ◌∷◌, ◌++◌, append_assoc, length, length-append, refl, sym, ap, subst, ◌∙◌, arith, Option, Some, None}
 use Rattle.std.specs.Prelude.{◌&&◌}
 use Rattle.gixobj_tree.specs.Entries.{EntryView}
@@ -128,8 +128,8 @@ module _ (trees : Trees) where
             (only_open entries) inner more v halts,
       )
 
-  above_more : (name : List ℕ) (place path : Path) → IsAbove place path → IsAbove (name ∷ place) (name ∷ path)
-  above_more name place path (first, more, next, rest, is, joined) = (name, place, next, rest, refl, ap (λ p. name ∷ p) joined)
+  above_more : (name : List ℕ) (parent path : Path) → IsAbove parent path → IsAbove (name ∷ parent) (name ∷ path)
+  above_more name parent path (first, more, next, rest, is, joined) = (name, parent, next, rest, refl, ap (λ p. name ∷ p) joined)
 
   -- an unopened directory in an open directory, or in one that is opened, is one above the path
   abbrev in_open : (name : List ℕ) (path : Path) (d : Dirs) (entries : List EntryView) → d (name ∷ []) ≡ Some entries → (it : ObjectId)
@@ -137,9 +137,9 @@ module _ (trees : Trees) where
   in_open name path d entries there it h =
       let at = h.above in
       record {
-        place = name ∷ h.place;
+        parent = name ∷ h.parent;
         entry = h.entry;
-        above = above_more name h.place path h.above;
+        above = above_more name h.parent path h.above;
         unopened = subst (λ q. is_unopened trees d (name ∷ q) ≡ true) (sym at.4)
             (unopened_open trees name at.0 at.1 d entries there ∙ subst (λ q. is_unopened trees (in_dir name d) q ≡ true) at.4 h.unopened);
         yielded = subst (λ q. looked_up_entry trees (name ∷ q) d ≡ Some h.entry) (sym at.4)
@@ -154,9 +154,9 @@ module _ (trees : Trees) where
   in_found name path d e entries requests entry tree none finds it h =
       let at = h.above in
       record {
-        place = name ∷ h.place;
+        parent = name ∷ h.parent;
         entry = h.entry;
-        above = above_more name h.place path h.above;
+        above = above_more name h.parent path h.above;
         unopened = subst (λ q. is_unopened trees d (name ∷ q) ≡ true) (sym at.4)
             (unopened_found trees name at.0 at.1 d e entries requests entry tree none finds
             ∙ subst (λ q. is_unopened trees (only_open entries) q ≡ true) at.4 h.unopened);
@@ -170,12 +170,12 @@ module _ (trees : Trees) where
   pub halted_at : {StopsBefore : EntryView → Type 0} (path : Path) (last : List ℕ) (after : Path) (old new : Dirs) (looked_up : List ObjectId)
       (failed_lookup : Option ObjectId)
       → StopsOpening StopsBefore trees path old new looked_up failed_lookup → (it : ObjectId) → failed_lookup ≡ Some it
-      → (h : IsUnopenedAbove trees old (path ++ last ∷ after) it) × (rest : Path) × (path ≡ h.place ++ rest)
+      → (h : IsUnopenedAbove trees old (path ++ last ∷ after) it) × (rest : Path) × (path ≡ h.parent ++ rest)
   halted_at path last after old new looked_up failed_lookup (at_once name rest d e entry tree free none) it is = absurd (cc is)
   halted_at path last after old new looked_up failed_lookup (without_answer name rest d e entry tree free none filled) it is =
       let remaining = one_more rest last after in (
         record {
-          place = name ∷ [];
+          parent = name ∷ [];
           entry = e;
           above = (name, [], remaining.0, remaining.1, refl, ap (λ p. name ∷ p) remaining.2);
           unopened = unopened_here trees name d e entry tree (none []) ∙ lookup_needed e.id filled;
@@ -199,7 +199,7 @@ module _ (trees : Trees) where
   not_open_here name rest last after d e entry tree free none =
       let remaining = one_more rest last after in
       record {
-        place = name ∷ [];
+        parent = name ∷ [];
         entry = e;
         above = (name, [], remaining.0, remaining.1, refl, ap (λ p. name ∷ p) remaining.2);
         not_open = none [];
@@ -220,9 +220,9 @@ module _ (trees : Trees) where
       let h = halted_unopened rest last after (in_dir name d) inner more v halts in
       let at = h.above in
       record {
-        place = name ∷ h.place;
+        parent = name ∷ h.parent;
         entry = h.entry;
-        above = above_more name h.place (rest ++ last ∷ after) h.above;
+        above = above_more name h.parent (rest ++ last ∷ after) h.above;
         not_open = h.not_open;
         yielded = subst (λ q. looked_up_entry trees (name ∷ q) d ≡ Some h.entry) (sym at.4)
             (known_open trees name at.0 at.1 d entries there ∙ subst (λ q. looked_up_entry trees q (in_dir name d) ≡ Some h.entry) at.4 h.yielded);
@@ -233,10 +233,10 @@ module _ (trees : Trees) where
       let h = halted_unopened rest last after (only_open entries) inner more v halts in
       let at = h.above in
       record {
-        place = name ∷ h.place;
+        parent = name ∷ h.parent;
         entry = h.entry;
-        above = above_more name h.place (rest ++ last ∷ after) h.above;
-        not_open = none h.place;
+        above = above_more name h.parent (rest ++ last ∷ after) h.above;
+        not_open = none h.parent;
         yielded = subst (λ q. looked_up_entry trees (name ∷ q) d ≡ Some h.entry) (sym at.4)
             (found_below trees name at.0 at.1 d e entries first entry tree (none []) finds
             ∙ subst (λ q. looked_up_entry trees q (only_open entries) ≡ Some h.entry)

@@ -1,4 +1,5 @@
--- An entry in place of any entry of its name: the entry at its key, without the entry of its name's other key.
+-- An item inserted at its key, and the item of its name's other key removed, make the entries with this entry instead
+-- of any of its name; `Entries::insert`, `remove_named` and `EitherKind` use it.
 use Rattle.std.proofs.Common.{◌≡◌, ◌≢◌, ◌∙◌, ℕ, Bool, true, false, not, cond, List, [], ◌∷◌, ◌++◌, Less, Equal, Greater, None, refl, sym, ap, subst}
 use mathlib.Core.Bool.{true≢false}
 use Rattle.std.specs.Prelude.{◌&&◌}

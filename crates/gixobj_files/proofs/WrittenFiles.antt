@@ -72,9 +72,10 @@ match_option_of_open_files : (T : Table) (k : ℕ) (dirs : Dirs) (name : List �
 match_option_of_open_files T k dirs name es e path mode id is h =
     subst (λ o. MatchOption o (Below T (Files T k) e.mode e.id path mode id) (λ _. OpenFiles T k (in_dir name dirs) path mode id)) (sym is) h
 
-emits_below_root_open : (dirs bases : Dirs) (ps : List Pair) (own : List EntryView) (saved : ℕ) → EmitsBelow dirs bases ps own saved → (es : List EntryView)
+emits_below_root_open : (dirs bases : Dirs) (ps : List Pair) (written_tree : List EntryView) (saved : ℕ) → EmitsBelow dirs bases ps written_tree saved
+    → (es : List EntryView)
     × (dirs [] ≡ Some es)
-emits_below_root_open dirs bases ps own saved (of_entries d b es below os n is walk) = (es, is)
+emits_below_root_open dirs bases ps written_tree saved (of_entries d b es below os n is walk) = (es, is)
 
 part_cons : (T : Table) (k : ℕ) (dirs : Dirs) (e : EntryView) (es : List EntryView) (name : List ℕ) (path : Path) (mode : ℕ) (id : ObjectId)
     → Part T k dirs es name path mode id → Part T k dirs (e ∷ es) name path mode id
@@ -116,29 +117,32 @@ tree_at_of_is_at_cons T id first rest (inl none) = absurd (cc none.1)
 tree_at_of_is_at_cons T id first rest (inr known) = known
 
 mutual
-  pub emits_below_files : (T : Table) (dirs bases : Dirs) (ps : List Pair) (own : List EntryView) (saved : ℕ) → EmitsBelow dirs bases ps own saved
+  pub emits_below_files : (T : Table) (dirs bases : Dirs) (ps : List Pair) (written_tree : List EntryView) (saved : ℕ)
+      → EmitsBelow dirs bases ps written_tree saved
       → AreTrees dirs
-      → Everywhere (Based T) dirs bases → Known T ps → (n : ℕ) → SameFiles (Files T n own) (OpenFiles T n dirs)
-  emits_below_files T dirs bases ps own saved (of_entries d b es below os n is walk) trees based known zero path mode id = ((λ h. absurd h), λ h. absurd h)
-  emits_below_files T dirs bases ps own saved (of_entries d b es below os n is walk) trees based known (suc k) [] mode id = ((λ h. absurd h), λ h. absurd h)
-  emits_below_files T dirs bases ps own saved (of_entries d b es below os n is walk) trees based known (suc k) (name ∷ path) mode id =
+      → Everywhere (Based T) dirs bases → Known T ps → (n : ℕ) → SameFiles (Files T n written_tree) (OpenFiles T n dirs)
+  emits_below_files T dirs bases ps written_tree saved (of_entries d b es below os n is walk) trees based known zero path mode id =
+      ((λ h. absurd h), λ h. absurd h)
+  emits_below_files T dirs bases ps written_tree saved (of_entries d b es below os n is walk) trees based known (suc k) [] mode id =
+      ((λ h. absurd h), λ h. absurd h)
+  emits_below_files T dirs bases ps written_tree saved (of_entries d b es below os n is walk) trees based known (suc k) (name ∷ path) mode id =
       let w = walk_files T d b es below os n walk (λ e l h there. trees [] e l (subst (λ o. HasAt o e) (sym is) h) there) (λ first q. trees (first ∷ q))
       (λ e l h there. based [] e (subst (λ o. HasAt o e) (sym is) h) l there) (λ first q. based (first ∷ q)) known k name path mode id in (
         (λ h. let p = w.0 h in (p.0, subst (λ o. HasAt o p.0) (sym is) p.1, p.2, p.3)),
         λ h. w.1 (h.0, subst (λ o. HasAt o h.0) is h.1, h.2, h.3),
       )
 
-  walk_files : (T : Table) (dirs bases : Dirs) (es : List EntryView) (ps : List Pair) (own : List EntryView) (saved : ℕ)
-      → EmitsEntries dirs bases es ps own saved
+  walk_files : (T : Table) (dirs bases : Dirs) (es : List EntryView) (ps : List Pair) (written_tree : List EntryView) (saved : ℕ)
+      → EmitsEntries dirs bases es ps written_tree saved
       → ((e : EntryView) (l : List EntryView) → ContainsEntry es e → dirs (e.name ∷ []) ≡ Some l → is_tree_mode e.mode ≡ true)
       → ((first : List ℕ) → AreTrees (in_dir first dirs))
       → ((e : EntryView) (l : List EntryView) → ContainsEntry es e → bases (e.name ∷ []) ≡ Some l → IsAt T e.id l)
       → ((first : List ℕ) → Everywhere (Based T) (in_dir first dirs) (in_dir first bases))
       → Known T ps → (k : ℕ) (name : List ℕ) (path : Path) (mode : ℕ) (id : ObjectId)
-      → (Files T (suc k) own (name ∷ path) mode id → Part T k dirs es name path mode id)
-      × (Part T k dirs es name path mode id → Files T (suc k) own (name ∷ path) mode id)
-  walk_files T dirs bases es ps own saved (end d b) trees deeper based basing known k name path mode id = ((λ h. absurd h.1), λ h. absurd h.1)
-  walk_files T dirs bases es ps own saved (unopened d b e rest below os n none walk) trees deeper based basing known k name path mode id =
+      → (Files T (suc k) written_tree (name ∷ path) mode id → Part T k dirs es name path mode id)
+      × (Part T k dirs es name path mode id → Files T (suc k) written_tree (name ∷ path) mode id)
+  walk_files T dirs bases es ps written_tree saved (end d b) trees deeper based basing known k name path mode id = ((λ h. absurd h.1), λ h. absurd h.1)
+  walk_files T dirs bases es ps written_tree saved (unopened d b e rest below os n none walk) trees deeper based basing known k name path mode id =
       let w = walk_files T d b rest below os n walk (λ x l h. trees x l (inr h)) deeper (λ x l h. based x l (inr h)) basing known k name path mode id in
       let At : EntryView → Option (List EntryView) → Type 0 = λ x o. MatchOption o (Below T (Files T k) x.mode x.id path mode id)
       (λ _. OpenFiles T k (in_dir name d) path mode id) in (
@@ -157,7 +161,8 @@ mutual
             (e, contains_entry_unless_null_head e e.id os mine.0, named, mine))
             (λ l. let f = w.1 (p.0, l, p.2, p.3) in (f.0, contains_entry_unless_null_tail e e.id os f.0 f.1, f.2, f.3)) p.1,
       )
-  walk_files T dirs bases es ps own saved (left_out_if_empty d b e rest inner below os m n found walk) trees deeper based basing known k name path mode id =
+  walk_files T dirs bases es ps written_tree saved (left_out_if_empty d b e rest inner below os m n found walk) trees deeper based basing known k name path
+      mode id =
       let w = walk_files T d b rest below os n walk (λ x l h. trees x l (inr h)) deeper (λ x l h. based x l (inr h)) basing
       (known_append_right T inner below known) k name path mode id in
       let root = emits_below_root_open (in_dir e.name d) (in_dir e.name b) inner [] m found in
@@ -170,24 +175,26 @@ mutual
             (open_files_of_match_option T k d name root.0 p.0 path mode id (subst (λ n. d (n ∷ []) ≡ Some root.0) named root.1) p.3)))))
             (λ l. w.1 (p.0, l, p.2, p.3)) p.1,
       )
-  walk_files T dirs bases es ps own saved (unchanged d b e first rest more_own inner below os m n found same walk) trees deeper based basing known k name path
+  walk_files T dirs bases es ps written_tree saved (unchanged d b e first rest more_written inner below os m n found same walk) trees deeper based basing
+      known k name path
       mode id =
       let w = walk_files T d b rest below os n walk (λ x l h. trees x l (inr h)) deeper (λ x l h. based x l (inr h)) basing
       (known_append_right T inner below known) k name path mode id in
-      let root = emits_below_root_open (in_dir e.name d) (in_dir e.name b) inner (first ∷ more_own) m found in
-      let lower = emits_below_files T (in_dir e.name d) (in_dir e.name b) inner (first ∷ more_own) m found (deeper e.name) (basing e.name)
+      let root = emits_below_root_open (in_dir e.name d) (in_dir e.name b) inner (first ∷ more_written) m found in
+      let lower = emits_below_files T (in_dir e.name d) (in_dir e.name b) inner (first ∷ more_written) m found (deeper e.name) (basing e.name)
       (known_append_left T inner below known) k path mode id in
-      emitted_files_cons T k d e rest os (first ∷ more_own) root.0 e.id (tree_at_of_is_at_cons T e.id first more_own
-      (based e (first ∷ more_own) (inl refl) same))
+      emitted_files_cons T k d e rest os (first ∷ more_written) root.0 e.id (tree_at_of_is_at_cons T e.id first more_written
+      (based e (first ∷ more_written) (inl refl) same))
       (trees e root.0 (inl refl) root.1) root.1 name path mode id lower w
-  walk_files T dirs bases es ps own saved (written d b e first rest more_own inner below os m n named_id found differ walk) trees deeper based basing known k
+  walk_files T dirs bases es ps written_tree saved (written d b e first rest more_written inner below os m n named_id found differ walk) trees deeper based
+      basing known k
       name path mode id =
-      let pair = known_append_right T inner ((named_id, first ∷ more_own) ∷ below) known in
+      let pair = known_append_right T inner ((named_id, first ∷ more_written) ∷ below) known in
       let w = walk_files T d b rest below os n walk (λ x l h. trees x l (inr h)) deeper (λ x l h. based x l (inr h)) basing pair.1 k name path mode id in
-      let root = emits_below_root_open (in_dir e.name d) (in_dir e.name b) inner (first ∷ more_own) m found in
-      let lower = emits_below_files T (in_dir e.name d) (in_dir e.name b) inner (first ∷ more_own) m found (deeper e.name) (basing e.name)
-      (known_append_left T inner ((named_id, first ∷ more_own) ∷ below) known) k path mode id in
-      emitted_files_cons T k d e rest os (first ∷ more_own) root.0 named_id pair.0 (trees e root.0 (inl refl) root.1) root.1 name path mode id lower w
+      let root = emits_below_root_open (in_dir e.name d) (in_dir e.name b) inner (first ∷ more_written) m found in
+      let lower = emits_below_files T (in_dir e.name d) (in_dir e.name b) inner (first ∷ more_written) m found (deeper e.name) (basing e.name)
+      (known_append_left T inner ((named_id, first ∷ more_written) ∷ below) known) k path mode id in
+      emitted_files_cons T k d e rest os (first ∷ more_written) root.0 named_id pair.0 (trees e root.0 (inl refl) root.1) root.1 name path mode id lower w
 
 some_of_has_at : (o : Option (List EntryView)) (e : EntryView) → HasAt o e → (es : List EntryView) × (o ≡ Some es) × ContainsEntry es e
 some_of_has_at None e h = absurd h

@@ -9,9 +9,9 @@ use Rattle.gixobj_files.specs.WrittenTrees.{with_id}
 
 -- entry by entry, the first list leaves an entry of the second out, or has it with some id
 abbrev pub IsFilteredTree : List EntryView → List EntryView → Type 0
-IsFilteredTree own [] = own ≡ []
-IsFilteredTree own (e ∷ es) = IsFilteredTree own es
-    ⊎ ((id : ObjectId) × (rest : List EntryView) × (own ≡ with_id e id ∷ rest) × IsFilteredTree rest es)
+IsFilteredTree written_tree [] = written_tree ≡ []
+IsFilteredTree written_tree (e ∷ es) = IsFilteredTree written_tree es
+    ⊎ ((id : ObjectId) × (rest : List EntryView) × (written_tree ≡ with_id e id ∷ rest) × IsFilteredTree rest es)
 
 -- the id of the first entry if it has this name, and else the null id
 abbrev pub id_among : List ℕ → List EntryView → ObjectId

@@ -34,16 +34,16 @@ pub data StopsOpening (StopsBefore : EntryView → Type 0) (trees : Trees) : Pat
 
 -- the first path is a parent directory of the second, below the root
 abbrev pub IsAbove : Path → Path → Type 0
-IsAbove place path = (first : List ℕ) × (more : Path) × (next : List ℕ) × (rest : Path) × (place ≡ first ∷ more)
-    × (path ≡ place ++ next ∷ rest)
+IsAbove parent path = (first : List ℕ) × (more : Path) × (next : List ℕ) × (rest : Path) × (parent ≡ first ∷ more)
+    × (path ≡ parent ++ next ∷ rest)
 
 -- a parent directory of the path that isn't open and would be looked up, by its id
 pub record IsUnopenedAbove (trees : Trees) (dirs : Dirs) (path : Path) (id : ObjectId) : Type 0 where
-  pub place : Path
+  pub parent : Path
   pub entry : EntryView
-  pub above : IsAbove place path
-  pub unopened : is_unopened trees dirs place ≡ true
-  pub yielded : looked_up_entry trees place dirs ≡ Some entry
+  pub above : IsAbove parent path
+  pub unopened : is_unopened trees dirs parent ≡ true
+  pub yielded : looked_up_entry trees parent dirs ≡ Some entry
   pub named : entry.id ≡ id
 
 -- the next directory on a path, after this prefix, isn't open and would be looked up by this id
@@ -56,18 +56,18 @@ IsNextUnopened trees dirs prefix more id =
 -- the opening of a path reaches this directory: the root, an open directory, or one that the opening enters and whose
 -- tree is known
 abbrev pub ReachesDirectory : (EntryView → Type 0) → Trees → Dirs → Path → Type 0
-ReachesDirectory StopsBefore trees dirs place =
-    (place ≡ []) ⊎ ((entries : List EntryView) × (dirs place ≡ Some entries))
-    ⊎ ((e : EntryView) × (looked_up_entry trees place dirs ≡ Some e) × (is_tree_mode e.mode ≡ true) × (¬ StopsBefore e)
+ReachesDirectory StopsBefore trees dirs parent =
+    (parent ≡ []) ⊎ ((entries : List EntryView) × (dirs parent ≡ Some entries))
+    ⊎ ((e : EntryView) × (looked_up_entry trees parent dirs ≡ Some e) × (is_tree_mode e.mode ≡ true) × (¬ StopsBefore e)
     × (IsNeverLookedUp e.id ⊎ ((entries : List EntryView) × (trees e.id ≡ Some entries))))
 
 -- a parent directory of the path isn't open, and the opening of the path enters it
 pub record IsUnopenedOnPath (StopsBefore : EntryView → Type 0) (trees : Trees) (dirs : Dirs)
     (path : Path) : Type 0 where
-  pub place : Path
+  pub parent : Path
   pub entry : EntryView
-  pub above : IsAbove place path
-  pub not_open : dirs place ≡ None
-  pub yielded : looked_up_entry trees place dirs ≡ Some entry
+  pub above : IsAbove parent path
+  pub not_open : dirs parent ≡ None
+  pub yielded : looked_up_entry trees parent dirs ≡ Some entry
   pub tree : is_tree_mode entry.mode ≡ true
   pub free : ¬ StopsBefore entry

@@ -3,7 +3,7 @@ use Rattle.std.specs.Prelude.{◌≢◌, ◌≤◌, List, ◌++◌, length, take
 use Rattle.gixobj_tree.specs.Entries.{EntryView}
 use Rattle.gixobj_hash.specs.declared.hash.object_id.ObjectId.{ObjectId}
 use Rattle.gixobj_files.specs.declared.written_tree.WrittenTree.{WrittenTree}
-use Rattle.gixobj_files.specs.declared.written_tree.WrittenTree.TheVariants.{Prefix, Own}
+use Rattle.gixobj_files.specs.declared.written_tree.WrittenTree.TheVariants.{Prefix, Copied}
 
 -- the entry with this id
 abbrev pub with_id : EntryView → ObjectId → EntryView
@@ -12,10 +12,10 @@ with_id e id = record { mode = e.mode; name = e.name; id = id }
 -- the entries so far: a prefix of the base, or entries of its own
 abbrev pub so_far : List EntryView → WrittenTree → List EntryView
 so_far base (Prefix same) = take same base
-so_far base (Own own) = own.items
+so_far base (Copied list) = list.items
 
 -- the invariant of a written tree: its number of entries is at most that of the base, or its own entries are no prefix
 -- of the base
 abbrev pub SharesBase : List EntryView → WrittenTree → Type 0
 SharesBase base (Prefix same) = same ≤ length base
-SharesBase base (Own own) = (rest : List EntryView) → own.items ++ rest ≢ base
+SharesBase base (Copied list) = (rest : List EntryView) → list.items ++ rest ≢ base

@@ -11,37 +11,37 @@ use gixobj_hash::hash::{Kind, ObjectId};
 use gixobj_tree::Tree;
 use gixobj_tree::tree::Entry;
 
-/// Makes a tree equal to `own`, which has some of the tree's entries in their order, with ids of its own.
+/// Makes a tree equal to `written_tree`, which has some of the tree's entries in their order, with ids of its own.
 ///
-/// The tree must be well-formed, and no id in `own` may be null. Allocates nothing.
-pub fn become_tree(tree: &mut Tree, own: &Tree)
+/// The tree must be well-formed, and no id in `written_tree` may be null. Allocates nothing.
+pub fn become_tree(tree: &mut Tree, written_tree: &Tree)
     requires well_formed { IsWellFormed tree.old }
-    requires filtered { IsFilteredTree own.now tree.old }
-    requires non_null { All (λ e. IsFalse (is_null e.id)) own.now }
-    ensures { tree.new ≡ own.now }
+    requires filtered { IsFilteredTree written_tree.now tree.old }
+    requires non_null { All (λ e. IsFalse (is_null e.id)) written_tree.now }
+    ensures { tree.new ≡ written_tree.now }
 {
-    sift(&mut tree.entries, &own.entries);
+    filter_entries(&mut tree.entries, &written_tree.entries);
 }
 
-/// Filters entries in place, so that they equal `own`.
-fn sift(entries: &mut Vec<Entry>, own: &[Entry])
+/// Filters entries in place, so that they equal `written_tree`.
+fn filter_entries(entries: &mut Vec<Entry>, written_tree: &[Entry])
     requires apart { EachLater (λ x y. x.name ≢ y.name) entries.old.items }
-    requires filtered { IsFilteredTree own.now entries.old.items }
-    requires non_null { All (λ e. IsFalse (is_null e.id)) own.now }
-    ensures { entries.new.items ≡ own.now }
+    requires filtered { IsFilteredTree written_tree.now entries.old.items }
+    requires non_null { All (λ e. IsFalse (is_null e.id)) written_tree.now }
+    ensures { entries.new.items ≡ written_tree.now }
 {
-    assign_ids(entries, own);
+    assign_ids(entries, written_tree);
     entries.retain(|entry| is_non_null(entry));
 }
 
-/// Sets the id of each entry to its id in `own`, or to the null id if `own` hasn't the entry.
-fn assign_ids(entries: &mut [Entry], own: &[Entry])
+/// Sets the id of each entry to its id in `written_tree`, or to the null id if `written_tree` hasn't the entry.
+fn assign_ids(entries: &mut [Entry], written_tree: &[Entry])
     requires apart { EachLater (λ x y. x.name ≢ y.name) entries.old }
-    requires filtered { IsFilteredTree own.now entries.old }
-    requires non_null { All (λ e. IsFalse (is_null e.id)) own.now }
-    ensures { non_null_entries entries.new ≡ own.now }
+    requires filtered { IsFilteredTree written_tree.now entries.old }
+    requires non_null { All (λ e. IsFalse (is_null e.id)) written_tree.now }
+    ensures { non_null_entries entries.new ≡ written_tree.now }
 {
-    let mut pending = own;
+    let mut pending = written_tree;
     for entry in entries.iter_mut() {
         pending = assign_id(entry, pending);
     }
@@ -54,8 +54,8 @@ fn assign_id<'a>(entry: &mut Entry, pending: &'a [Entry]) -> &'a [Entry]
     ensures remaining { result.now ≡ filtered_out entry.old.name pending.now }
 {
     match pending.split_first() {
-        Some((own, after)) if is_named(own, entry.filename.as_bytes()) => {
-            entry.oid = own.oid;
+        Some((first, after)) if is_named(first, entry.filename.as_bytes()) => {
+            entry.oid = first.oid;
             after
         }
         _ => {

@@ -1,4 +1,4 @@
-//! Entries of an open directory, in pieces, so that an insertion moves few of them.
+//! Entries of an open directory, in pieces, so that an insertion moves those of one piece alone.
 ghost use Rattle.std.specs.Prelude.{◌≡◌, ◌&&◌, ◌⊎◌, ◌+◌, ◌<◌, ◌≤◌, ◌++◌, [], All, IfOk, IfSome, IsFalse, if◌then◌else◌, OnErr, OnOk, length, vec_capacity, vec_len};
 ghost use Rattle.std.specs.List.{find};
 ghost use Rattle.std.specs.Option.{option_copied};
@@ -236,18 +236,18 @@ impl Entries {
         Ok(Tree { entries })
     }
 
-    /// Makes the entries equal to `own`, which has some of them in their order, with ids of its own.
+    /// Makes the entries equal to `written_tree`, which has some of them in their order, with ids of its own.
     ///
-    /// `own` must be well-formed, and no id in it may be null. Allocates nothing.
-    pub fn become_tree(&mut self, own: &Tree)
-        requires well_formed { IsWellFormed own.now }
-        requires filtered { IsFilteredTree own.now self.old }
-        requires non_null { All (λ e. IsFalse (is_null e.id)) own.now }
-        ensures { self.new ≡ own.now }
+    /// `written_tree` must be well-formed, and no id in it may be null. Allocates nothing.
+    pub fn become_tree(&mut self, written_tree: &Tree)
+        requires well_formed { IsWellFormed written_tree.now }
+        requires filtered { IsFilteredTree written_tree.now self.old }
+        requires non_null { All (λ e. IsFalse (is_null e.id)) written_tree.now }
+        ensures { self.new ≡ written_tree.now }
     {
         pieces::settle(&mut self.tree.entries, &mut self.more, &mut self.spare);
-        become_tree(&mut self.tree, own);
-        self.len = own.entries.len();
+        become_tree(&mut self.tree, written_tree);
+        self.len = written_tree.entries.len();
     }
 }
 

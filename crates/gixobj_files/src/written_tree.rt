@@ -19,7 +19,7 @@ pub enum WrittenTree {
     /// A prefix of the base, as its number of entries.
     Prefix(usize),
     /// Entries of its own, which are no prefix of the base.
-    Own(Vec<Entry>),
+    Copied(Vec<Entry>),
 }
 
 impl WrittenTree {
@@ -60,11 +60,11 @@ impl WrittenTree {
                     *same += 1;
                     return Ok(());
                 }
-                let own = copy_with(alloc, &base[..*same], entry, id, room)?;
-                *self = WrittenTree::Own(own);
+                let list = copy_with(alloc, &base[..*same], entry, id, room)?;
+                *self = WrittenTree::Copied(list);
                 Ok(())
             }
-            WrittenTree::Own(own) => push_copy(alloc, own, entry, id),
+            WrittenTree::Copied(list) => push_copy(alloc, list, entry, id),
         }
     }
 
@@ -75,7 +75,7 @@ impl WrittenTree {
     {
         match self {
             WrittenTree::Prefix(same) => *same == 0,
-            WrittenTree::Own(own) => own.is_empty(),
+            WrittenTree::Copied(list) => list.is_empty(),
         }
     }
 
@@ -86,7 +86,7 @@ impl WrittenTree {
     {
         match self {
             WrittenTree::Prefix(same) => *same == base.len(),
-            WrittenTree::Own(_) => false,
+            WrittenTree::Copied(_) => false,
         }
     }
 
@@ -105,7 +105,7 @@ impl WrittenTree {
     {
         let entries = match self {
             WrittenTree::Prefix(same) => copies(alloc, &base[..same])?,
-            WrittenTree::Own(own) => own,
+            WrittenTree::Copied(list) => list,
         };
         Ok(Tree { entries })
     }
@@ -138,23 +138,23 @@ fn copy_with(
 ) -> Result<Vec<Entry>, AllocError>
     ensures { IfOk result (λ it. it.items ≡ prefix.now ++ with_id entry.now id ∷ []) }
 {
-    let mut own = copies(alloc, prefix)?;
-    own.reserve(room.saturating_sub(prefix.len()))?;
-    push_copy(alloc, &mut own, entry, id)?;
-    Ok(own)
+    let mut list = copies(alloc, prefix)?;
+    list.reserve(room.saturating_sub(prefix.len()))?;
+    push_copy(alloc, &mut list, entry, id)?;
+    Ok(list)
 }
 
 /// Appends a copy of the entry, with this id.
 fn push_copy(
     alloc: Global,
-    own: &mut Vec<Entry>,
+    list: &mut Vec<Entry>,
     entry: &Entry,
     id: ObjectId,
 ) -> Result<(), AllocError>
-    ensures { OnOk result (own.new.items ≡ own.old.items ++ with_id entry.now id ∷ []) }
+    ensures { OnOk result (list.new.items ≡ list.old.items ++ with_id entry.now id ∷ []) }
 {
     let mut copied = copy(alloc, entry)?;
     copied.oid = id;
-    own.push(copied)?;
+    list.push(copied)?;
     Ok(())
 }

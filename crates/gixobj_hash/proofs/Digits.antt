@@ -46,6 +46,6 @@ pub digit_value_at : (digits : List ℕ) (i : ℕ) → AllDigits 10 digits → i
     × (digit_value (get_or digits i 0) ≡ get_or digits i 0 - 48)
 digit_value_at digits i all within =
     let range = digit_at digits i all within in
-    let least : 48 ≤ get_or digits i 0 = omega arith in
+    let minimum : 48 ≤ get_or digits i 0 = omega arith in
     let most : get_or digits i 0 < 58 = omega arith in
-    (least, grind (arith, least, most))
+    (minimum, grind (arith, minimum, most))

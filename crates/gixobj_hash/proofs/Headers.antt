@@ -14,13 +14,13 @@ use Rattle.gixobj_hash.specs.ByteStrings.{IsByteFree}
 use Rattle.gixobj_hash.specs.declared.decode.LooseHeaderDecodeError.{LooseHeaderDecodeError}
 use Rattle.gixobj_hash.specs.declared.decode.LooseHeaderDecodeError.TheVariants.{InvalidHeader, ObjectHeader, OutOfMemory, ParseIntegerError}
 use Rattle.gixobj_hash.specs.declared.decode.ParseIntegerErrorKind.{ParseIntegerErrorKind}
-use Rattle.gixobj_hash.specs.declared.kind.Error.TheVariants as word
+use Rattle.gixobj_hash.specs.declared.kind.Error.TheVariants as kind_error
 use Rattle.gixobj_hash.specs.declared.kind.Kind.{Kind}
 use Rattle.gixobj_hash.specs.declared.kind.Kind.TheVariants.{Tree, Blob, Commit, Tag}
 
 -- the kind of a name, by its length and its first byte
 kind_of_name : List ℕ → Kind
-kind_of_name word = if length word == 3 then Tag else if length word == 6 then Commit else if slice_index word 0 == 98 then Blob else Tree
+kind_of_name token = if length token == 3 then Tag else if length token == 6 then Commit else if slice_index token 0 == 98 then Blob else Tree
 
 kind_of_name-kind_keyword : (kind : Kind) → kind_of_name (kind_name kind) ≡ kind
 unfolding kind_of_name
@@ -47,11 +47,11 @@ pub record Parts (input : List ℕ) (kind : Kind) (size used : ℕ) : Type 0 whe
   pub decodes : DecodesToSize size_bytes size
   pub len : used ≡ length (kind_name kind) + length size_bytes + 2
 
-loose_header_append_assoc : (word size_bytes rest : List ℕ) → ((word ++ 32 ∷ size_bytes) ++ 0 ∷ []) ++ rest ≡ word ++ 32 ∷ (size_bytes ++ 0 ∷ rest)
-loose_header_append_assoc word size_bytes rest = simp append_assoc
+loose_header_append_assoc : (token size_bytes rest : List ℕ) → ((token ++ 32 ∷ size_bytes) ++ 0 ∷ []) ++ rest ≡ token ++ 32 ∷ (size_bytes ++ 0 ∷ rest)
+loose_header_append_assoc token size_bytes rest = simp append_assoc
 
-loose_header_len : (word size_bytes : List ℕ) → length ((word ++ 32 ∷ size_bytes) ++ 0 ∷ []) ≡ length word + length size_bytes + 2
-loose_header_len word size_bytes = simp length-append (omega arith)
+loose_header_len : (token size_bytes : List ℕ) → length ((token ++ 32 ∷ size_bytes) ++ 0 ∷ []) ≡ length token + length size_bytes + 2
+loose_header_len token size_bytes = simp length-append (omega arith)
 
 pub parts_of_loose_header : (input : List ℕ) (kind : Kind) (size used : ℕ) → HasLooseHeaderOfLength input kind size used → Parts input kind size used
 parts_of_loose_header input kind size used header =
@@ -78,35 +78,37 @@ loose_header_of_parts input kind size used parts =
 parts_unique : (input : List ℕ) (kind : Kind) (size used : ℕ) (parts : Parts input kind size used) (other : Kind) (after : List ℕ)
     → input ≡ kind_name other ++ 32 ∷ after → (kind ≡ other) × (after ≡ parts.size_bytes ++ 0 ∷ parts.rest)
 parts_unique input kind size used parts other after joined =
-    let cut = split_parts_unique 32 (kind_name kind) (parts.size_bytes ++ 0 ∷ parts.rest) (kind_name other) after (kind_name_is_space_free kind)
+    let same_parts = split_parts_unique 32 (kind_name kind) (parts.size_bytes ++ 0 ∷ parts.rest) (kind_name other) after (kind_name_is_space_free kind)
     (kind_name_is_space_free other)
     (sym parts.joined ∙ joined) in
-    (kind_keyword_injective kind other cut.0, sym cut.1)
+    (kind_keyword_injective kind other same_parts.0, sym same_parts.1)
 
 pub loose_header_unique : (input : List ℕ) (kind : Kind) (size used : ℕ) (other : Kind) (size' used' : ℕ)
     → Parts input kind size used → Parts input other size' used' → (kind ≡ other) × (size ≡ size') × (used ≡ used')
 loose_header_unique input kind size used other size' used' first second =
     let same = parts_unique input kind size used first other (second.size_bytes ++ 0 ∷ second.rest) second.joined in
-    let cut = split_parts_unique 0 second.size_bytes second.rest first.size_bytes first.rest (size_bytes_zero_free second.size_bytes size' second.decodes)
+    let same_parts = split_parts_unique 0 second.size_bytes second.rest first.size_bytes first.rest
+    (size_bytes_zero_free second.size_bytes size' second.decodes)
     (size_bytes_zero_free first.size_bytes size first.decodes) same.1 in (
       same.0,
-      cc (first.decodes.value, second.decodes.value, cut.0),
-      cc (first.len, second.len, cut.0, same.0),
+      cc (first.decodes.value, second.decodes.value, same_parts.0),
+      cc (first.len, second.len, same_parts.0, same.0),
     )
 
-no_unknown_kind_of_parts : (input : List ℕ) (kind : Kind) (size used : ℕ) (word : List ℕ) → Parts input kind size used → HasUnknownKind input word → ⊥
-no_unknown_kind_of_parts input kind size used word parts unknown =
-    let cut = split_parts_unique 32 word unknown.0 (kind_name kind) (parts.size_bytes ++ 0 ∷ parts.rest) unknown.1.first (kind_name_is_space_free kind)
+no_unknown_kind_of_parts : (input : List ℕ) (kind : Kind) (size used : ℕ) (token : List ℕ) → Parts input kind size used → HasUnknownKind input token → ⊥
+no_unknown_kind_of_parts input kind size used token parts unknown =
+    let same_parts = split_parts_unique 32 token unknown.0 (kind_name kind) (parts.size_bytes ++ 0 ∷ parts.rest) unknown.1.first (kind_name_is_space_free kind)
     (sym unknown.1.joined ∙ parts.joined) in
-    unknown.2 kind cut.0
+    unknown.2 kind same_parts.0
 
 no_size_fault_of_parts : (input : List ℕ) (kind : Kind) (size used : ℕ) (size_bytes : List ℕ) (fault : ParseIntegerErrorKind) → Parts input kind size used
     → HasFaultySize input size_bytes fault → ⊥
 no_size_fault_of_parts input kind size used size_bytes fault parts faulty =
     let same = parts_unique input kind size used parts faulty.0 faulty.1 faulty.3 in
-    let cut = split_parts_unique 0 size_bytes faulty.2 parts.size_bytes parts.rest faulty.4.first (size_bytes_zero_free parts.size_bytes size parts.decodes)
+    let same_parts = split_parts_unique 0 size_bytes faulty.2 parts.size_bytes parts.rest faulty.4.first
+    (size_bytes_zero_free parts.size_bytes size parts.decodes)
     (sym faulty.4.joined ∙ same.1) in
-    no_size_fault_of_digits parts.size_bytes size fault parts.decodes (let P : List ℕ → Type 0 = λ it. HasSizeFault it fault in subst P cut.0 faulty.5)
+    no_size_fault_of_digits parts.size_bytes size fault parts.decodes (let P : List ℕ → Type 0 = λ it. HasSizeFault it fault in subst P same_parts.0 faulty.5)
 
 pub no_error_of_loose_header : (input : List ℕ) (kind : Kind) (size used : ℕ) (error : LooseHeaderDecodeError) → Parts input kind size used
     → IsLooseHeaderError input error
@@ -116,9 +118,9 @@ no_error_of_loose_header input kind size used (InvalidHeader message) parts (inl
 no_error_of_loose_header input kind size used (InvalidHeader message) parts (inr lacks) =
     let same = parts_unique input kind size used parts lacks.0 lacks.1 lacks.2 in
     no_split_of_byte_free 0 parts.size_bytes parts.rest (let P : List ℕ → Type 0 = IsByteFree 0 in subst P same.1 lacks.3)
-no_error_of_loose_header input kind size used (ObjectHeader (word.InvalidObjectKind copy)) parts unknown =
+no_error_of_loose_header input kind size used (ObjectHeader (kind_error.InvalidObjectKind copy)) parts unknown =
     no_unknown_kind_of_parts input kind size used (bstring_bytes copy) parts unknown
-no_error_of_loose_header input kind size used (ObjectHeader word.OutOfMemory) parts never = never
+no_error_of_loose_header input kind size used (ObjectHeader kind_error.OutOfMemory) parts never = never
 no_error_of_loose_header input kind size used (ParseIntegerError fault message copy) parts faulty =
     no_size_fault_of_parts input kind size used (bstring_bytes copy) fault parts faulty
 no_error_of_loose_header input kind size used OutOfMemory parts (inl (size_bytes, unknown)) =

@@ -11,10 +11,10 @@ pub list_all_of_all_pass : (content : List ℕ) → AllPass is_hex_digit content
 list_all_of_all_pass content all = list_all-from_AllPass is_hex_digit content all
 
 -- two hex digits decode to the byte 16 times the first value plus the second
-pub pair_value_of_digits : (high low place first second : ℕ) → hex_digit_value high ≡ Some first → hex_digit_value low ≡ Some second
-    → pair_value high low place ≡ Ok (16 * first + second)
-pair_value_of_digits high low place first second one two =
-    let read : value_at high place ≡ Ok first = ap (digit_or_error high place) one in
-    let also : value_at low (place + 1) ≡ Ok second = ap (digit_or_error low (place + 1)) two in
+pub pair_value_of_digits : (high low position first second : ℕ) → hex_digit_value high ≡ Some first → hex_digit_value low ≡ Some second
+    → pair_value high low position ≡ Ok (16 * first + second)
+pair_value_of_digits high low position first second one two =
+    let read : value_at high position ≡ Ok first = ap (digit_or_error high position) one in
+    let also : value_at low (position + 1) ≡ Ok second = ap (digit_or_error low (position + 1)) two in
     let turned : 16 * first + second ≡ first * 16 + second = omega arith in
     rw (read, also, turned) refl

@@ -43,11 +43,11 @@ flat_map_ended_append byte (part ∷ parts) others = ap (λ (it : List ℕ). end
 pub is_split_at_each_append : (byte : ℕ) (bytes rest : List ℕ) (parts others : List (List ℕ)) → ArePrefixes byte bytes rest parts
     → IsSplitAtEach byte rest others
     → IsSplitAtEach byte bytes (parts ++ others)
-is_split_at_each_append byte bytes rest parts others prefix cut =
+is_split_at_each_append byte bytes rest parts others prefix split =
     record {
       joined = ap (ended byte) prefix.joined ∙ append_assoc (flat_map (ended byte) parts) rest (byte ∷ [])
-          ∙ ap (λ (it : List ℕ). flat_map (ended byte) parts ++ it) cut.joined ∙ sym (flat_map_ended_append byte parts others);
-      free = All-append (IsByteFree byte) parts others prefix.free cut.free;
+          ∙ ap (λ (it : List ℕ). flat_map (ended byte) parts ++ it) split.joined ∙ sym (flat_map_ended_append byte parts others);
+      free = All-append (IsByteFree byte) parts others prefix.free split.free;
     }
 
 -- bytes without the separator are one part
@@ -72,13 +72,13 @@ ended_ne_nil byte (x ∷ bytes) same = cc same
 -- a byte that is not the separator joins the first part of the bytes after it
 split_at_each_cons_exists : (byte x : ℕ) (bytes : List ℕ) (parts : List (List ℕ)) → x ≢ byte → IsSplitAtEach byte bytes parts → (all : List (List ℕ))
     × IsSplitAtEach byte (x ∷ bytes) all
-split_at_each_cons_exists byte x bytes [] other cut = absurd (ended_ne_nil byte bytes cut.joined)
-split_at_each_cons_exists byte x bytes (part ∷ parts) other cut = (
+split_at_each_cons_exists byte x bytes [] other split = absurd (ended_ne_nil byte bytes split.joined)
+split_at_each_cons_exists byte x bytes (part ∷ parts) other split = (
   (x ∷ part) ∷ parts,
   record {
-    joined = ap (λ (it : List ℕ). x ∷ it) cut.joined;
-    free = All-cons (IsByteFree byte) (x ∷ part) parts (All-cons (λ (it : ℕ). it ≢ byte) x part other (All-head (IsByteFree byte) part parts cut.free))
-        (All-tail (IsByteFree byte) part parts cut.free);
+    joined = ap (λ (it : List ℕ). x ∷ it) split.joined;
+    free = All-cons (IsByteFree byte) (x ∷ part) parts (All-cons (λ (it : ℕ). it ≢ byte) x part other (All-head (IsByteFree byte) part parts split.free))
+        (All-tail (IsByteFree byte) part parts split.free);
   },
 )
 
@@ -86,17 +86,17 @@ split_at_each_cons_exists byte x bytes (part ∷ parts) other cut = (
 pub split_at_each_exists : (byte : ℕ) (bytes : List ℕ) → (parts : List (List ℕ)) × IsSplitAtEach byte bytes parts
 split_at_each_exists byte [] = ([] ∷ [], is_split_at_each_of_byte_free byte [] (All-nil (λ (it : ℕ). it ≢ byte)))
 split_at_each_exists byte (x ∷ bytes) =
-    let (parts, cut) = split_at_each_exists byte bytes in
+    let (parts, split) = split_at_each_exists byte bytes in
     elim (ℕ_discrete x byte) [
       | yes same ↦ (
         [] ∷ parts,
         record {
-          joined = rw same (ap (λ (it : List ℕ). byte ∷ it) cut.joined);
+          joined = rw same (ap (λ (it : List ℕ). byte ∷ it) split.joined);
           free = All-cons (IsByteFree byte) [] parts
-              (All-nil (λ (it : ℕ). it ≢ byte)) cut.free;
+              (All-nil (λ (it : ℕ). it ≢ byte)) split.free;
         },
       )
-      | no other ↦ split_at_each_cons_exists byte x bytes parts other cut
+      | no other ↦ split_at_each_cons_exists byte x bytes parts other split
     ]
 
 -- ---- uniqueness
@@ -118,11 +118,11 @@ flat_map_ended_injective byte (part ∷ a) [] free_a free_b same = absurd (no_pa
     no_part [] a same = cc same
     no_part (x ∷ part) a same = cc same
 flat_map_ended_injective byte (first ∷ a) (second ∷ b) free_a free_b same =
-    let cut = split_parts_unique byte first (flat_map (ended byte) a) second (flat_map (ended byte) b) (All-head (IsByteFree byte) first a free_a)
+    let split = split_parts_unique byte first (flat_map (ended byte) a) second (flat_map (ended byte) b) (All-head (IsByteFree byte) first a free_a)
     (All-head (IsByteFree byte) second b free_b)
     (sym (ended_append byte first (flat_map (ended byte) a)) ∙ same ∙ ended_append byte second (flat_map (ended byte) b)) in
-    let rest = flat_map_ended_injective byte a b (All-tail (IsByteFree byte) first a free_a) (All-tail (IsByteFree byte) second b free_b) cut.1 in
-    cc (cut.0, rest)
+    let rest = flat_map_ended_injective byte a b (All-tail (IsByteFree byte) first a free_a) (All-tail (IsByteFree byte) second b free_b) split.1 in
+    cc (split.0, rest)
 
 pub split_at_each_unique : (byte : ℕ) (bytes : List ℕ) (a b : List (List ℕ)) → IsSplitAtEach byte bytes a → IsSplitAtEach byte bytes b → a ≡ b
 split_at_each_unique byte bytes a b first second = flat_map_ended_injective byte a b first.free second.free (sym first.joined ∙ second.joined)

@@ -9,7 +9,7 @@ use Rattle.gixobj_hash.specs.declared.decode.LooseHeaderDecodeError.{LooseHeader
 use Rattle.gixobj_hash.specs.declared.decode.LooseHeaderDecodeError.TheVariants.{InvalidHeader, ObjectHeader, OutOfMemory, ParseIntegerError}
 use Rattle.gixobj_hash.specs.declared.decode.ParseIntegerErrorKind.{ParseIntegerErrorKind}
 use Rattle.gixobj_hash.specs.declared.decode.ParseIntegerErrorKind.TheVariants.{Empty, InvalidDigit, NegOverflow, PosOverflow}
-use Rattle.gixobj_hash.specs.declared.kind.Error.TheVariants as word
+use Rattle.gixobj_hash.specs.declared.kind.Error.TheVariants as kind_error
 use Rattle.gixobj_hash.specs.declared.kind.Kind.{Kind}
 use Rattle.gixobj_hash.specs.Kind.{IsUnknownKindName, kind_name}
 use Rattle.gixobj_hash.specs.ByteStrings.{IsByteFree, SplitsAt}
@@ -73,7 +73,7 @@ HasLooseHeaderOfLength input kind size used = (used ≤ length input) × IsLoose
 
 -- the bytes before the first space are an unknown kind
 abbrev pub HasUnknownKind : List ℕ → List ℕ → Type 0
-HasUnknownKind input word = (rest : List ℕ) × SplitsAt space input word rest × IsUnknownKindName word
+HasUnknownKind input token = (rest : List ℕ) × SplitsAt space input token rest × IsUnknownKindName token
 
 -- a kind's name and a space come first, and no zero byte follows them
 abbrev pub HasNoZeroByte : List ℕ → Type 0
@@ -89,11 +89,11 @@ HasFaultySize input bytes fault =
 -- size. The errors of the kind and the size have a copy; out of memory replaces them if it fails
 abbrev pub IsLooseHeaderError : List ℕ → LooseHeaderDecodeError → Type 0
 IsLooseHeaderError input (InvalidHeader message) = IsByteFree space input ⊎ HasNoZeroByte input
-IsLooseHeaderError input (ObjectHeader (word.InvalidObjectKind copy)) = HasUnknownKind input (bstring_bytes copy)
-IsLooseHeaderError input (ObjectHeader word.OutOfMemory) = ⊥
+IsLooseHeaderError input (ObjectHeader (kind_error.InvalidObjectKind copy)) = HasUnknownKind input (bstring_bytes copy)
+IsLooseHeaderError input (ObjectHeader kind_error.OutOfMemory) = ⊥
 IsLooseHeaderError input (ParseIntegerError fault message copy) = HasFaultySize input (bstring_bytes copy) fault
 IsLooseHeaderError input OutOfMemory =
-    ((word : List ℕ) × HasUnknownKind input word)
+    ((token : List ℕ) × HasUnknownKind input token)
     ⊎ ((bytes : List ℕ) × (fault : ParseIntegerErrorKind) × HasFaultySize input bytes fault)
 
 -- why the input does not begin with a loose object: an invalid header, or fewer bytes after it than the size that it

@@ -58,7 +58,7 @@ module _ {F : Type 0} (hash : hash.Kind) (of : Mut F (Bor (List EntryView) × Un
     called = folds_to_digests out last it.trees.items digests wrote.called;
     storable = wrote.storable;
     below = wrote.below;
-    own = wrote.own;
+    written_tree = wrote.written_tree;
     last = wrote.last;
     dirs = wrote.dirs;
     bases = wrote.bases;

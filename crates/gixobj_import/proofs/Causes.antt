@@ -1,4 +1,5 @@
--- Causes in errors of steps and of imports, from those of the calls.
+-- The cause in an error of a step or of an import is that of the call that failed; the proofs of `step`, `import_all`,
+-- `write_edits` and `keep_commit_of` use it.
 use Rattle.std.proofs.Common.{◌≡◌, ◌∙◌, ⊎_elim, List, [], ◌∷◌, Err, Ok, Option, Result, Some, ap, length, subst, sym, take}
 use Rattle.std.specs.Prelude.{IfErr, slice_get}
 use Rattle.gixobj_directories.specs.declared.write.WriteError.TheVariants as write

@@ -103,4 +103,4 @@ pub written_root_id_kind : {S : Type 0} (k : hash.Kind) (old new : State S) (it 
     → id_kind it.id ≡ k
 written_root_id_kind k old new it wrote =
     let all = subst (All (IsDigest k)) wrote.last (written_pairs_are_digests k it.trees.items wrote.called) in
-    digest_id_kind k Tree (encode_tree wrote.own) it.id (last_holds_of_all_snoc (IsDigest k) wrote.below (it.id, wrote.own) all)
+    digest_id_kind k Tree (encode_tree wrote.written_tree) it.id (last_holds_of_all_snoc (IsDigest k) wrote.below (it.id, wrote.written_tree) all)

@@ -1,4 +1,5 @@
--- Actors that can be encoded, and commits that were: for the encoding of a step's commit and for its keeping.
+-- The actors of a step whose commit is encoded are legal, and the encoding decodes to the commit: for the encoding of a
+-- step's commit and for its keeping.
 use Rattle.std.proofs.Common.{◌≡◌, ◌≢◌, ◌⊎◌, inl, inr, ⊎_elim, ◌==◌, sym, subst, refl, ℕ, true, false, All, List, [], ◌∷◌, Option, Some, None, arith}
 use Rattle.std.proofs.lemmas.Bool.Decides.{nat_tests}
 use Rattle.std.proofs.lemmas.List.Elements.{All-cons, All-head, All-nil, All-tail}

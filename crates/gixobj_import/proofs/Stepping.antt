@@ -30,7 +30,7 @@ slice_get_of_get_or (step ∷ steps) (suc index) it within is = slice_get_of_get
 pub slice_get_length_of_get_or : (steps : List Step) (imported : List Imported) (index : ℕ) (step : Step) → index < length steps
     → step ≡ get_or steps index step
     → length imported ≡ index → slice_get steps (length imported) ≡ Some step
-slice_get_length_of_get_or steps imported index step within is as_many = ap (slice_get steps) as_many ∙ slice_get_of_get_or steps index step within is
+slice_get_length_of_get_or steps imported index step within is same_count = ap (slice_get steps) same_count ∙ slice_get_of_get_or steps index step within is
 
 -- one of the edits is a write, by the test of the borrowed list
 pub contains_write_of_reply : (items lent : List Edit) (b : Bool) → lent ≡ items → b ≡ true → IsTrue b ↔ Contains lent edit.Write → Contains items edit.Write
@@ -76,11 +76,11 @@ module _ {S : Type 0} (model : StoreModel S) where
       → index < length steps → step ≡ get_or steps index step
       → AreImported model old (take index steps) imported between → length imported ≡ index → IsStepError model between step error new
       → Stops model old steps imported error new
-  stopped_at old between new steps imported index step error within is done as_many failure = inl (record {
+  stopped_at old between new steps imported index step error within is done same_count failure = inl (record {
     failed_step = step;
-    at = slice_get_length_of_get_or steps imported index step within is as_many;
+    at = slice_get_length_of_get_or steps imported index step within is same_count;
     reached = between;
-    imported = subst (λ (k : ℕ). AreImported model old (take k steps) imported between) (sym as_many) done;
+    imported = subst (λ (k : ℕ). AreImported model old (take k steps) imported between) (sym same_count) done;
     cause = failure;
   })
 

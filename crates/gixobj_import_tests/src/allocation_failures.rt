@@ -31,7 +31,7 @@ fn rejects_more(alloc: Global, importer: &mut Importer<Memory>, done: &[Imported
 }
 
 /// Whether an import stopped only at an allocation failure, and a new importer imports all steps.
-fn is_cut_off(
+fn ends_at_first_commits(
     alloc: Global,
     importer: &mut Importer<Memory>,
     steps: &[Step],
@@ -46,11 +46,11 @@ fn is_cut_off(
 }
 
 /// Whether the steps are imported, or stopped and then imported by a new importer.
-fn imports_or_is_cut_off(alloc: Global, steps: &[Step]) -> bool {
+fn imports_or_ends_at_first_commits(alloc: Global, steps: &[Step]) -> bool {
     let mut importer = importer_of(alloc);
     let outcome = import(&mut importer, steps);
     match &outcome.error {
-        Some(error) => is_cut_off(alloc, &mut importer, steps, &outcome.done, error),
+        Some(error) => ends_at_first_commits(alloc, &mut importer, steps, &outcome.done, error),
         None => outcome.has(&COMMITS, 0),
     }
 }
@@ -66,7 +66,7 @@ fn steps_at_last(alloc: Global) -> Option<Vec<Step>> {
 /// Whether the three steps are imported, or stopped and then imported by a new importer.
 fn imports_plain_at_last(alloc: Global) -> bool {
     match steps_at_last(alloc) {
-        Some(steps) => imports_or_is_cut_off(alloc, &steps),
+        Some(steps) => imports_or_ends_at_first_commits(alloc, &steps),
         None => false,
     }
 }

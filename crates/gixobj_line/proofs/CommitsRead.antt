@@ -7,7 +7,7 @@ use Rattle.std.proofs.lemmas.List.Elements.{All-nil, All-push}
 use Rattle.std.specs.List.{flat_map}
 use Rattle.std.specs.Prelude.{codes}
 use Rattle.gixobj_fields.specs.HeaderFormat.{BeginsWithField, Header, DecodesToHeader, encode_field}
-use Rattle.gixobj_fields.specs.Runs.{Passes}
+use Rattle.gixobj_fields.specs.Runs.{BeginsWithPieces}
 use Rattle.gixobj_hash.specs.Hash.Hex.{IsIdHexOfKind}
 use Rattle.gixobj_hash.specs.declared.hash.kind.Kind.{Kind}
 use Rattle.gixobj_line.specs.Commit.{DecodesToHeaders, BeginsCommit, CommitLines, DecodesToCommit, IsEncoding, before_encoding, encode_encoding, encode_ids, encode_parent}
@@ -209,7 +209,7 @@ reads_gather kind bytes commit before input line after rest (message_comes _ mes
     decodes_to_commit_with_message kind bytes input message commit begins is
 
 pub reads_gathered : (kind : Kind) (bytes : List ℕ) (commit : CommitLines) (before : State) (input : List ℕ) (lines : List LineView) (following : State)
-    (rest : List ℕ) → Passes (BeginsWithLine kind) before input lines following rest
+    (rest : List ℕ) → BeginsWithPieces (BeginsWithLine kind) before input lines following rest
     → Reads kind bytes before input commit → Reads kind bytes following rest (gathered commit lines)
 reads_gathered kind bytes commit before input [] following rest (same_state, same_input) reads = rw (← same_state, ← same_input) reads
 reads_gathered kind bytes commit before input (line ∷ lines) following rest (next, after, has, more) reads =
@@ -218,6 +218,6 @@ reads_gathered kind bytes commit before input (line ∷ lines) following rest (n
 
 -- the lines of the encoding from its start
 pub reads_gathered_of_empty : (kind : Kind) (bytes : List ℕ) (lines : List LineView) (following : State) (rest : List ℕ)
-    → Passes (BeginsWithLine kind) state.Tree bytes lines following rest → Reads kind bytes following rest (gathered empty_commit lines)
-reads_gathered_of_empty kind bytes lines following rest passes = reads_gathered kind bytes empty_commit state.Tree bytes lines following rest passes
+    → BeginsWithPieces (BeginsWithLine kind) state.Tree bytes lines following rest → Reads kind bytes following rest (gathered empty_commit lines)
+reads_gathered_of_empty kind bytes lines following rest begins_with = reads_gathered kind bytes empty_commit state.Tree bytes lines following rest begins_with
     (refl, refl, (refl, refl))

@@ -6,9 +6,9 @@ use Rattle.std.proofs.lemmas.List.Elements.{All-cons, All-head, All-nil, All-tai
 use Rattle.std.specs.List.{flat_map}
 use Rattle.std.specs.Prelude.{codes, map}
 use Rattle.gixobj_fields.proofs.HeaderFields.{is_id_hex_of_decoded}
-use Rattle.gixobj_fields.proofs.Runs.{after_passed, one_run, passes_one}
+use Rattle.gixobj_fields.proofs.Runs.{yields_after_pieces, one_run, begins_with_pieces_snoc}
 use Rattle.gixobj_fields.specs.HeaderFormat.{BeginsWithSeveralLines, Header, DecodesToHeader, BeginsWithOtherName, encode_field}
-use Rattle.gixobj_fields.specs.Runs.{HasNoPiece, Passes, Yields, complete, yields_end, yields_piece}
+use Rattle.gixobj_fields.specs.Runs.{HasNoPiece, BeginsWithPieces, Yields, complete, yields_end, yields_piece}
 use Rattle.gixobj_hash.specs.Hash.{IsIdHex}
 use Rattle.gixobj_hash.specs.Hash.Hex.{IsIdHexOfKind}
 use Rattle.gixobj_hash.specs.declared.decode.Error.{Error}
@@ -80,15 +80,15 @@ state_after_message_is_end kind before input message following rest (message_com
 -- after lines that end with a message, the decoder is at the end
 pub end_state_of_message : (kind : Kind) (before : State) (input : List ℕ) (lines prefix : List LineView) (message : List ℕ) (following : State)
     (rest : List ℕ)
-    → Passes (BeginsWithLine kind) before input lines following rest
+    → BeginsWithPieces (BeginsWithLine kind) before input lines following rest
     → lines ≡ prefix ++ message_line message ∷ [] → following ≡ state.End
-end_state_of_message kind before input [] [] message following rest passes is = cc is
-end_state_of_message kind before input [] (first ∷ prefix) message following rest passes is = cc is
+end_state_of_message kind before input [] [] message following rest begins_with is = cc is
+end_state_of_message kind before input [] (first ∷ prefix) message following rest begins_with is = cc is
 end_state_of_message kind before input (line ∷ lines) [] message following rest (next, after, has, more) is =
     let first : line ≡ message_line message = cc is in
     let none : lines ≡ [] = cc is in
-    let at_end : Passes (BeginsWithLine kind) next after [] following rest =
-    subst (λ (it : List LineView). Passes (BeginsWithLine kind) next after it following rest) none more in
+    let at_end : BeginsWithPieces (BeginsWithLine kind) next after [] following rest =
+    subst (λ (it : List LineView). BeginsWithPieces (BeginsWithLine kind) next after it following rest) none more in
     sym at_end.0 ∙ state_after_message_is_end kind before input message next after
     (subst (λ (it : LineView). BeginsWithLine kind before input it next after) first has)
 end_state_of_message kind before input (line ∷ lines) (first ∷ prefix) message following rest (next, after, has, more) is =
@@ -103,21 +103,21 @@ lines_end_with_message commit = (
 )
 
 no_complete_yield_before_end : (kind : Kind) (bytes : List ℕ) (lines others : List LineView) (following : State) (rest : List ℕ) (commit : CommitLines)
-    → Passes (BeginsWithLine kind) state.Tree bytes lines following rest → HasNoPiece (BeginsWithLine kind) following rest → following ≢ state.End
+    → BeginsWithPieces (BeginsWithLine kind) state.Tree bytes lines following rest → HasNoPiece (BeginsWithLine kind) following rest → following ≢ state.End
     → lines_of_commit commit ≡ lines ++ others → Yields (BeginsWithLine kind) following rest others complete → ⊥
-no_complete_yield_before_end kind bytes lines others following rest commit passes none going is (yields_end _) =
+no_complete_yield_before_end kind bytes lines others following rest commit begins_with none going is (yields_end _) =
     let last = lines_end_with_message commit in
-    going (end_state_of_message kind state.Tree bytes lines last.0 commit.message following rest passes (sym (append-nil lines) ∙ sym is ∙ last.1))
-no_complete_yield_before_end kind bytes lines others following rest commit passes none going is (yields_piece _ next _ after line more _ has seen) =
+    going (end_state_of_message kind state.Tree bytes lines last.0 commit.message following rest begins_with (sym (append-nil lines) ∙ sym is ∙ last.1))
+no_complete_yield_before_end kind bytes lines others following rest commit begins_with none going is (yields_piece _ next _ after line more _ has seen) =
     none line next after has
 
 pub malformed_commit_of_no_line : (kind : Kind) (bytes : List ℕ) (lines : List LineView) (following : State) (rest : List ℕ)
-    → Passes (BeginsWithLine kind) state.Tree bytes lines following rest → HasNoPiece (BeginsWithLine kind) following rest → following ≢ state.End
+    → BeginsWithPieces (BeginsWithLine kind) state.Tree bytes lines following rest → HasNoPiece (BeginsWithLine kind) following rest → following ≢ state.End
     → IsMalformedCommit kind bytes
-malformed_commit_of_no_line kind bytes lines following rest passes none going commit is =
-    let at = after_passed (BeginsWithLine kind) (line_unique kind) (no_line_of_nil kind) state.Tree following bytes rest lines
-    (lines_of_commit commit) complete passes (yields_lines_of_commit kind bytes commit is) in
-    no_complete_yield_before_end kind bytes lines at.others following rest commit passes none going at.joined at.yielded
+malformed_commit_of_no_line kind bytes lines following rest begins_with none going commit is =
+    let at = yields_after_pieces (BeginsWithLine kind) (line_unique kind) (no_line_of_nil kind) state.Tree following bytes rest lines
+    (lines_of_commit commit) complete begins_with (yields_lines_of_commit kind bytes commit is) in
+    no_complete_yield_before_end kind bytes lines at.others following rest commit begins_with none going at.joined at.yielded
 
 -- ---- allocation
 
@@ -206,17 +206,17 @@ gathered_snoc commit (first ∷ lines) line = gathered_snoc (gather commit first
 pub gathers_snoc : (kind : Kind) (bytes : List ℕ) (commit after : CommitLines) (before following : State) (input rest : List ℕ) (line : LineView)
     → Gathers kind bytes before input commit
     → BeginsWithLine kind before input line following rest → after ≡ gather commit line → Gathers kind bytes following rest after
-gathers_snoc kind bytes commit after before following input rest line (lines, passes, is) has grown = (
+gathers_snoc kind bytes commit after before following input rest line (lines, begins_with, is) has grown = (
   lines ++ line ∷ [],
-  passes_one (BeginsWithLine kind) state.Tree before following bytes input rest lines line passes has,
+  begins_with_pieces_snoc (BeginsWithLine kind) state.Tree before following bytes input rest lines line begins_with has,
   grown
       ∙ ap (λ (it : CommitLines). gather it line) is ∙ sym (gathered_snoc empty_commit lines line),
 )
 
 reads_of_gathers : (kind : Kind) (bytes : List ℕ) (following : State) (rest : List ℕ) (commit : CommitLines) → Gathers kind bytes following rest commit
     → Reads kind bytes following rest commit
-reads_of_gathers kind bytes following rest commit (lines, passes, is) = subst (λ (it : CommitLines). Reads kind bytes following rest it) (sym is)
-    (reads_gathered_of_empty kind bytes lines following rest passes)
+reads_of_gathers kind bytes following rest commit (lines, begins_with, is) = subst (λ (it : CommitLines). Reads kind bytes following rest it) (sym is)
+    (reads_gathered_of_empty kind bytes lines following rest begins_with)
 
 -- at the end the commit is complete
 pub decodes_commit_of_gathered : (kind : Kind) (bytes : List ℕ) (following : State) (rest : List ℕ) (commit : CommitLines)
@@ -228,8 +228,8 @@ decodes_commit_of_gathered kind bytes following rest commit gathers at_end = sub
 pub decode_error_of_line_error : (kind : Kind) (bytes : List ℕ) (before : State) (input : List ℕ) (commit : CommitLines) (error reason : Error) → error ≡ reason
     → Gathers kind bytes before input commit → before ≢ state.End → IsLineError kind before input reason
     → IsCommitDecodeError kind bytes error
-decode_error_of_line_error kind bytes before input commit error Malformed same (lines, passes, is) going none =
-    rw same (malformed_commit_of_no_line kind bytes lines before input passes none going)
+decode_error_of_line_error kind bytes before input commit error Malformed same (lines, begins_with, is) going none =
+    rw same (malformed_commit_of_no_line kind bytes lines before input begins_with none going)
 decode_error_of_line_error kind bytes before input commit error OutOfMemory same gathers going (may, several) =
     rw same (inr (reaches_header_of_several_lines kind bytes before input commit (reads_of_gathers kind bytes before input commit gathers) may several))
 
@@ -266,26 +266,26 @@ parents_are_id_hex kind (hex ∷ hexes) are = All-cons IsIdHex hex hexes (is_id_
 
 -- the bytes begin with some lines of a commit, and the rest follows in this state
 abbrev pub Reaches : Kind → List ℕ → State → List ℕ → Type 0
-Reaches kind bytes after rest = (lines : List LineView) × Passes (BeginsWithLine kind) state.Tree bytes lines after rest
+Reaches kind bytes after rest = (lines : List LineView) × BeginsWithPieces (BeginsWithLine kind) state.Tree bytes lines after rest
 
 pub reaches_start : (kind : Kind) (bytes : List ℕ) → Reaches kind bytes state.Tree bytes
 reaches_start kind bytes = ([], (refl, refl))
 
 pub reaches_more : (kind : Kind) (bytes : List ℕ) (before following : State) (input rest : List ℕ) → Reaches kind bytes before input
     → BeginsWithSomeLine kind before input following rest → Reaches kind bytes following rest
-reaches_more kind bytes before following input rest (lines, passes) (line, has) =
-    (lines ++ line ∷ [], passes_one (BeginsWithLine kind) state.Tree before following bytes input rest lines line passes has)
+reaches_more kind bytes before following input rest (lines, begins_with) (line, has) =
+    (lines ++ line ∷ [], begins_with_pieces_snoc (BeginsWithLine kind) state.Tree before following bytes input rest lines line begins_with has)
 
 pub reaches_end : (kind : Kind) (bytes : List ℕ) (following : State) (rest : List ℕ) → Reaches kind bytes following rest → following ≡ state.End
     → IsCommit kind bytes
-reaches_end kind bytes following rest (lines, passes) at_end = (
+reaches_end kind bytes following rest (lines, begins_with) at_end = (
   gathered empty_commit lines,
-  subst (λ (it : State). Reads kind bytes it rest (gathered empty_commit lines)) at_end (reads_gathered_of_empty kind bytes lines following rest passes),
+  subst (λ (it : State). Reads kind bytes it rest (gathered empty_commit lines)) at_end (reads_gathered_of_empty kind bytes lines following rest begins_with),
 )
 
 pub reaches_none : (kind : Kind) (bytes : List ℕ) (before : State) (input : List ℕ) → Reaches kind bytes before input
     → HasNoPiece (BeginsWithLine kind) before input → before ≢ state.End → IsMalformedCommit kind bytes
-reaches_none kind bytes before input (lines, passes) none going = malformed_commit_of_no_line kind bytes lines before input passes none going
+reaches_none kind bytes before input (lines, begins_with) none going = malformed_commit_of_no_line kind bytes lines before input begins_with none going
 
 pub some_line_shortens : (kind : Kind) (before : State) (input : List ℕ) (following : State) (rest : List ℕ)
     → BeginsWithSomeLine kind before input following rest → length rest < length input

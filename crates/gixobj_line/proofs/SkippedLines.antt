@@ -1,4 +1,5 @@
--- A line at the beginning of the input without its content, or none; `after_line` and its parts use it.
+-- A field at the beginning of an input is a line, and without a field of its state an input begins with no line;
+-- `after_line` and its parts use it.
 use Rattle.std.proofs.Common.{◌≡◌, ◌≢◌, ℕ, List, [], ◌∷◌, ◌++◌, append_assoc, refl, subst, sym, ◌∙◌}
 use Rattle.std.specs.List.{flat_map}
 use Rattle.std.specs.Prelude.{IfNone, None, Option, Some, codes}

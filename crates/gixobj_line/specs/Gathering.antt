@@ -1,6 +1,6 @@
 -- A commit built from its lines, one by one.
 use Rattle.std.specs.Prelude.{◌≡◌, ◌≢◌, ℕ, List, [], ◌∷◌, ◌++◌, Some, None, ⊤}
-use Rattle.gixobj_fields.specs.Runs.{Passes}
+use Rattle.gixobj_fields.specs.Runs.{BeginsWithPieces}
 use Rattle.gixobj_hash.specs.declared.hash.kind.Kind.{Kind}
 use Rattle.gixobj_line.specs.Commit.{CommitLines}
 use Rattle.gixobj_line.specs.Lines.{BeginsWithLine, LineView, author_line, committer_line, encoding_line, header_line, message_line, parent_line, tree_line}
@@ -43,5 +43,5 @@ Allocates commit _ = ⊥
 -- the bytes begin with the lines of the commit that was built so far, and the rest follows in this state
 abbrev pub Gathers : Kind → List ℕ → State → List ℕ → CommitLines → Type 0
 Gathers kind bytes after rest commit =
-    (lines : List LineView) × Passes (BeginsWithLine kind) state.Tree bytes lines after rest
+    (lines : List LineView) × BeginsWithPieces (BeginsWithLine kind) state.Tree bytes lines after rest
     × (commit ≡ gathered empty_commit lines)

@@ -28,35 +28,36 @@ pub listed_tree_error_of_content : (input : List ℕ) (error : LooseContentError
     → IsListedTreeError input (content_error error)
 listed_tree_error_of_content input error rejected = listed_tree_error_of_show_error input (content_error error) (show_error_of_content input error rejected)
 
-pub list_error_of_answer : (words : List (List ℕ)) (rest rest' : Option (List ℕ)) (may_fail : Type 0) (out out' : SinkView) (cause : Failure) (hash : hash.Kind)
+pub list_error_of_answer : (arguments : List (List ℕ)) (rest rest' : Option (List ℕ)) (may_fail : Type 0)
+    (out out' : SinkView) (cause : Failure) (hash : hash.Kind)
     (input : List ℕ)
-    → IsCommandOfHash words (codes "tree") hash → ReadsAll rest rest' input → IsListingError hash input cause
-    → IsListError words rest rest' may_fail out out' cause
-list_error_of_answer words rest rest' may_fail out out' Usage hash input requests read rejected = absurd rejected
-list_error_of_answer words rest rest' may_fail out out' InputFailed hash input requests read rejected = absurd rejected
-list_error_of_answer words rest rest' may_fail out out' OutputFailed hash input requests read rejected = absurd rejected
-list_error_of_answer words rest rest' may_fail out out' OutOfMemory hash input requests read rejected = (hash, requests)
-list_error_of_answer words rest rest' may_fail out out' BadHeader hash input requests read rejected = ((hash, requests), input, read, rejected)
-list_error_of_answer words rest rest' may_fail out out' ShortData hash input requests read rejected = ((hash, requests), input, read, rejected)
-list_error_of_answer words rest rest' may_fail out out' NotATree hash input requests read rejected = ((hash, requests), input, read, rejected)
-list_error_of_answer words rest rest' may_fail out out' BadTree hash input requests read rejected = (hash, input, requests, read, rejected)
+    → IsCommandOfHash arguments (codes "tree") hash → ReadsAll rest rest' input → IsListingError hash input cause
+    → IsListError arguments rest rest' may_fail out out' cause
+list_error_of_answer arguments rest rest' may_fail out out' Usage hash input requests read rejected = absurd rejected
+list_error_of_answer arguments rest rest' may_fail out out' InputFailed hash input requests read rejected = absurd rejected
+list_error_of_answer arguments rest rest' may_fail out out' OutputFailed hash input requests read rejected = absurd rejected
+list_error_of_answer arguments rest rest' may_fail out out' OutOfMemory hash input requests read rejected = (hash, requests)
+list_error_of_answer arguments rest rest' may_fail out out' BadHeader hash input requests read rejected = ((hash, requests), input, read, rejected)
+list_error_of_answer arguments rest rest' may_fail out out' ShortData hash input requests read rejected = ((hash, requests), input, read, rejected)
+list_error_of_answer arguments rest rest' may_fail out out' NotATree hash input requests read rejected = ((hash, requests), input, read, rejected)
+list_error_of_answer arguments rest rest' may_fail out out' BadTree hash input requests read rejected = (hash, input, requests, read, rejected)
 
 -- an output is unchanged by a fact that follows from one by which it is unchanged
 has_written_nothing_weaken : {A B : Type 0} → (A → B) → (cause : Failure) → HasWrittenNothing A cause → HasWrittenNothing B cause
-has_written_nothing_weaken passed Usage remaining = passed remaining
-has_written_nothing_weaken passed InputFailed remaining = passed remaining
-has_written_nothing_weaken passed OutputFailed remaining = remaining
-has_written_nothing_weaken passed OutOfMemory remaining = passed remaining
-has_written_nothing_weaken passed BadHeader remaining = passed remaining
-has_written_nothing_weaken passed ShortData remaining = passed remaining
-has_written_nothing_weaken passed NotATree remaining = passed remaining
-has_written_nothing_weaken passed BadTree remaining = passed remaining
+has_written_nothing_weaken implies Usage remaining = implies remaining
+has_written_nothing_weaken implies InputFailed remaining = implies remaining
+has_written_nothing_weaken implies OutputFailed remaining = remaining
+has_written_nothing_weaken implies OutOfMemory remaining = implies remaining
+has_written_nothing_weaken implies BadHeader remaining = implies remaining
+has_written_nothing_weaken implies ShortData remaining = implies remaining
+has_written_nothing_weaken implies NotATree remaining = implies remaining
+has_written_nothing_weaken implies BadTree remaining = implies remaining
 
 -- a failed list over streams is a failed list over equal streams
-pub is_unlisted_of_error : {A B may_fail : Type 0} (words : List (List ℕ)) (rest read read' : Option (List ℕ))
+pub is_unlisted_of_error : {A B may_fail : Type 0} (arguments : List (List ℕ)) (rest read read' : Option (List ℕ))
     (out out' out'' errors errors' errors'' : SinkView)
     (status : ℕ)
     → read ≡ read' → out' ≡ out'' → errors' ≡ errors'' → (A → B)
-    → IsUnlisted words rest read may_fail out out' errors errors' A status → IsUnlisted words rest read' may_fail out out'' errors errors'' B status
-is_unlisted_of_error words rest read read' out out' out'' errors errors' errors'' status same-read same-out same-errors passed it =
-    (it.0, it.1, rw (← same-read, ← same-out) it.2, rw (← same-errors) it.3, has_written_nothing_weaken passed it.0 it.4)
+    → IsUnlisted arguments rest read may_fail out out' errors errors' A status → IsUnlisted arguments rest read' may_fail out out'' errors errors'' B status
+is_unlisted_of_error arguments rest read read' out out' out'' errors errors' errors'' status same-read same-out same-errors implies it =
+    (it.0, it.1, rw (← same-read, ← same-out) it.2, rw (← same-errors) it.3, has_written_nothing_weaken implies it.0 it.4)

@@ -20,7 +20,7 @@ use Rattle.gixobj_show.specs.declared.failure.Failure.TheVariants.{BadHeader, Ba
 
 -- the arguments request the list of a tree
 abbrev pub IsListCommand : List (List ℕ) → Type 0
-IsListCommand words = IsCommand words (codes "tree")
+IsListCommand arguments = IsCommand arguments (codes "tree")
 
 -- the line of an entry: its mode, the name of its kind, its id in hex and its unchanged name, separated by spaces
 abbrev pub entry_line : EntryView → List ℕ
@@ -75,36 +75,38 @@ IsListingError hash input _ = ⊥
 
 -- the arguments request a list, the entire input was read, and the bytes list the tree at its start
 abbrev pub IsListOfInput : List (List ℕ) → Option (List ℕ) → Option (List ℕ) → List ℕ → Type 0
-IsListOfInput words rest rest' bytes =
-    (hash : hash.Kind) × (input : List ℕ) × IsCommandOfHash words (codes "tree") hash × ReadsAll rest rest' input
+IsListOfInput arguments rest rest' bytes =
+    (hash : hash.Kind) × (input : List ℕ) × IsCommandOfHash arguments (codes "tree") hash × ReadsAll rest rest' input
     × IsListed hash input bytes
 
 -- the list was written
 abbrev pub Listed : List (List ℕ) → Option (List ℕ) → Option (List ℕ) → SinkView → SinkView → Type 0
-Listed words rest rest' out out' = (bytes : List ℕ) × IsListOfInput words rest rest' bytes × AppendsAll out out' bytes
+Listed arguments rest rest' out out' = (bytes : List ℕ) × IsListOfInput arguments rest rest' bytes
+    × AppendsAll out out' bytes
 
 -- the error of a run; at a failed output a proper prefix of the list was written; out of memory is that of any run
 abbrev pub IsListError : List (List ℕ) → Option (List ℕ) → Option (List ℕ) → Type 0 → SinkView → SinkView → Failure
     → Type 0
-IsListError words rest rest' may_fail out out' InputFailed = IsListCommand words × may_fail
-IsListError words rest rest' may_fail out out' OutputFailed = (bytes : List ℕ) × IsListOfInput words rest rest' bytes
+IsListError arguments rest rest' may_fail out out' InputFailed = IsListCommand arguments × may_fail
+IsListError arguments rest rest' may_fail out out' OutputFailed =
+    (bytes : List ℕ) × IsListOfInput arguments rest rest' bytes
     × FailsToAppend out out' bytes
-IsListError words rest rest' may_fail out out' OutOfMemory = IsListCommand words
-IsListError words rest rest' may_fail out out' BadHeader = IsListCommand words × (input : List ℕ)
+IsListError arguments rest rest' may_fail out out' OutOfMemory = IsListCommand arguments
+IsListError arguments rest rest' may_fail out out' BadHeader = IsListCommand arguments × (input : List ℕ)
     × ReadsAll rest rest' input × BeginsWithNoLooseHeader input
-IsListError words rest rest' may_fail out out' ShortData = IsListCommand words × (input : List ℕ)
+IsListError arguments rest rest' may_fail out out' ShortData = IsListCommand arguments × (input : List ℕ)
     × ReadsAll rest rest' input × IsShort input
-IsListError words rest rest' may_fail out out' NotATree = IsListCommand words × (input : List ℕ)
+IsListError arguments rest rest' may_fail out out' NotATree = IsListCommand arguments × (input : List ℕ)
     × ReadsAll rest rest' input × IsOfAnotherKind input
-IsListError words rest rest' may_fail out out' BadTree =
-    (hash : hash.Kind) × (input : List ℕ) × IsCommandOfHash words (codes "tree") hash × ReadsAll rest rest' input
+IsListError arguments rest rest' may_fail out out' BadTree =
+    (hash : hash.Kind) × (input : List ℕ) × IsCommandOfHash arguments (codes "tree") hash × ReadsAll rest rest' input
     × IsBadTree hash input
-IsListError words rest rest' may_fail out out' _ = ⊥
+IsListError arguments rest rest' may_fail out out' _ = ⊥
 
 -- the run failed: the status and the line on standard error report the error, and nothing was written to standard
 -- output, unless it failed
 abbrev pub IsUnlisted : List (List ℕ) → Option (List ℕ) → Option (List ℕ) → Type 0 → SinkView → SinkView → SinkView
     → SinkView → Type 0 → ℕ → Type 0
-IsUnlisted words rest rest' may_fail out out' errors errors' same_output status =
-    (cause : Failure) × (status ≡ exit_status_of cause) × IsListError words rest rest' may_fail out out' cause
+IsUnlisted arguments rest rest' may_fail out out' errors errors' same_output status =
+    (cause : Failure) × (status ≡ exit_status_of cause) × IsListError arguments rest rest' may_fail out out' cause
     × IsPrinted errors errors' (line_of cause) × HasWrittenNothing same_output cause

@@ -12,7 +12,7 @@ use gixobj_show::arguments::requested_hash;
 use std::alloc::Global;
 use std::io::{Read, Write};
 
-/// Runs `tree` or `show` on `words`, the arguments after the program's name, and returns the exit status.
+/// Runs `tree` or `show` on `arguments`, those after the program's name, and returns the exit status.
 ///
 /// Both read the entire input. Ids are of SHA-1, or of SHA-256 with a second argument `sha256`.
 ///
@@ -34,32 +34,32 @@ use std::io::{Read, Write};
 /// [`listing`](crate::tree::listing), or `show`.
 pub fn engine<R: Read, O: Write, E: Write>(
     alloc: Global,
-    words: &[String],
+    arguments: &[String],
     input: &mut R,
     output: &mut O,
     errors: &mut E,
 ) -> u8
-    ensures written { result ≡ 0 → IsOtherCommand (map string_bytes words.now) (codes "tree")
-        → Answered (map string_bytes words.now) (R.remaining input.old) (R.remaining input.new)
+    ensures written { result ≡ 0 → IsOtherCommand (map string_bytes arguments.now) (codes "tree")
+        → Answered (map string_bytes arguments.now) (R.remaining input.old) (R.remaining input.new)
         (writer_view (O.contents output.old)) (writer_view (O.contents output.new)) }
-    ensures error { result ≢ 0 → IsOtherCommand (map string_bytes words.now) (codes "tree")
-        → IsReportedError (map string_bytes words.now) (R.remaining input.old) (R.remaining input.new) ⊤
+    ensures error { result ≢ 0 → IsOtherCommand (map string_bytes arguments.now) (codes "tree")
+        → IsReportedError (map string_bytes arguments.now) (R.remaining input.old) (R.remaining input.new) ⊤
         (writer_view (O.contents output.old)) (writer_view (O.contents output.new))
         (writer_view (E.contents errors.old)) (writer_view (E.contents errors.new))
         (input.new ≡ input.old) (output.new ≡ output.old) result }
-    ensures list_written { result ≡ 0 → IsListCommand (map string_bytes words.now)
-        → Listed (map string_bytes words.now) (R.remaining input.old) (R.remaining input.new)
+    ensures list_written { result ≡ 0 → IsListCommand (map string_bytes arguments.now)
+        → Listed (map string_bytes arguments.now) (R.remaining input.old) (R.remaining input.new)
         (writer_view (O.contents output.old)) (writer_view (O.contents output.new)) }
-    ensures list_error { result ≢ 0 → IsListCommand (map string_bytes words.now)
-        → IsUnlisted (map string_bytes words.now) (R.remaining input.old) (R.remaining input.new) ⊤
+    ensures list_error { result ≢ 0 → IsListCommand (map string_bytes arguments.now)
+        → IsUnlisted (map string_bytes arguments.now) (R.remaining input.old) (R.remaining input.new) ⊤
         (writer_view (O.contents output.old)) (writer_view (O.contents output.new))
         (writer_view (E.contents errors.old)) (writer_view (E.contents errors.new))
         (output.new ≡ output.old) result }
     ensures no_error { result ≡ 0 → errors.new ≡ errors.old }
 {
-    match requested_hash("tree", words) {
-        Some(hash) => list_read(alloc, words, hash, input, output, errors),
-        None => gixobj_show::engine::engine(alloc, words, input, output, errors),
+    match requested_hash("tree", arguments) {
+        Some(hash) => list_read(alloc, arguments, hash, input, output, errors),
+        None => gixobj_show::engine::engine(alloc, arguments, input, output, errors),
     }
 }
 
@@ -68,31 +68,31 @@ pub fn engine<R: Read, O: Write, E: Write>(
 /// Over a slice and two vectors with capacity, the input never fails, and each line is written.
 pub fn run<S: Source, O: Sink, E: Sink>(
     alloc: Global,
-    words: &[String],
+    arguments: &[String],
     input: &mut S,
     output: &mut O,
     errors: &mut E,
 ) -> u8
-    ensures written { result ≡ 0 → IsOtherCommand (map string_bytes words.now) (codes "tree")
-        → Answered (map string_bytes words.now) (S.rest input.old) (S.rest input.new)
+    ensures written { result ≡ 0 → IsOtherCommand (map string_bytes arguments.now) (codes "tree")
+        → Answered (map string_bytes arguments.now) (S.rest input.old) (S.rest input.new)
         (O.view output.old) (O.view output.new) }
-    ensures error { result ≢ 0 → IsOtherCommand (map string_bytes words.now) (codes "tree")
-        → IsReportedError (map string_bytes words.now) (S.rest input.old) (S.rest input.new)
+    ensures error { result ≢ 0 → IsOtherCommand (map string_bytes arguments.now) (codes "tree")
+        → IsReportedError (map string_bytes arguments.now) (S.rest input.old) (S.rest input.new)
         (S.may_fail input.old) (O.view output.old) (O.view output.new) (E.view errors.old)
         (E.view errors.new) (input.new ≡ input.old) (output.new ≡ output.old) result }
-    ensures list_written { result ≡ 0 → IsListCommand (map string_bytes words.now)
-        → Listed (map string_bytes words.now) (S.rest input.old) (S.rest input.new)
+    ensures list_written { result ≡ 0 → IsListCommand (map string_bytes arguments.now)
+        → Listed (map string_bytes arguments.now) (S.rest input.old) (S.rest input.new)
         (O.view output.old) (O.view output.new) }
-    ensures list_error { result ≢ 0 → IsListCommand (map string_bytes words.now)
-        → IsUnlisted (map string_bytes words.now) (S.rest input.old) (S.rest input.new)
+    ensures list_error { result ≢ 0 → IsListCommand (map string_bytes arguments.now)
+        → IsUnlisted (map string_bytes arguments.now) (S.rest input.old) (S.rest input.new)
         (S.may_fail input.old) (O.view output.old) (O.view output.new) (E.view errors.old)
         (E.view errors.new) (output.new ≡ output.old) result }
     ensures no_error { result ≡ 0 → errors.new ≡ errors.old }
     ensures same_loans { (S.loan input.new ≡ S.loan input.old)
         × (O.loan output.new ≡ O.loan output.old) × (E.loan errors.new ≡ E.loan errors.old) }
 {
-    match requested_hash("tree", words) {
-        Some(hash) => list(alloc, words, hash, input, output, errors),
-        None => gixobj_show::engine::run(alloc, words, input, output, errors),
+    match requested_hash("tree", arguments) {
+        Some(hash) => list(alloc, arguments, hash, input, output, errors),
+        None => gixobj_show::engine::run(alloc, arguments, input, output, errors),
     }
 }

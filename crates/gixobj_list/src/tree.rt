@@ -20,21 +20,21 @@ use gixobj_tree::tree::EntryRef;
 use std::alloc::{AllocError, Global};
 use std::io::{Read, Write};
 
-/// Lists a tree like [`list`], over any reader and any two writers. `words` have to request `tree` with
+/// Lists a tree like [`list`], over any reader and any two writers. `arguments` have to request `tree` with
 /// `hash`.
 pub(crate) fn list_read<R: Read, O: Write, E: Write>(
     alloc: Global,
-    words: &[String],
+    arguments: &[String],
     hash: hash::Kind,
     input: &mut R,
     output: &mut O,
     errors: &mut E,
 ) -> u8
-    requires command { IsCommandOfHash (map string_bytes words.now) (codes "tree") hash }
-    ensures written { result ≡ 0 → Listed (map string_bytes words.now) (R.remaining input.old)
+    requires command { IsCommandOfHash (map string_bytes arguments.now) (codes "tree") hash }
+    ensures written { result ≡ 0 → Listed (map string_bytes arguments.now) (R.remaining input.old)
         (R.remaining input.new) (writer_view (O.contents output.old))
         (writer_view (O.contents output.new)) }
-    ensures error { result ≢ 0 → IsUnlisted (map string_bytes words.now)
+    ensures error { result ≢ 0 → IsUnlisted (map string_bytes arguments.now)
         (R.remaining input.old) (R.remaining input.new) ⊤ (writer_view (O.contents output.old))
         (writer_view (O.contents output.new)) (writer_view (E.contents errors.old))
         (writer_view (E.contents errors.new)) (output.new ≡ output.old) result }
@@ -42,7 +42,7 @@ pub(crate) fn list_read<R: Read, O: Write, E: Write>(
 {
     list(
         alloc,
-        words,
+        arguments,
         hash,
         &mut FromRead(input),
         &mut ToWrite(output),
@@ -50,44 +50,44 @@ pub(crate) fn list_read<R: Read, O: Write, E: Write>(
     )
 }
 
-/// Lists the tree of the input or reports the error, and returns the status. `words` have to request `tree`
+/// Lists the tree of the input or reports the error, and returns the status. `arguments` have to request `tree`
 /// with `hash`.
 pub(crate) fn list<S: Source, O: Sink, E: Sink>(
     alloc: Global,
-    words: &[String],
+    arguments: &[String],
     hash: hash::Kind,
     input: &mut S,
     output: &mut O,
     errors: &mut E,
 ) -> u8
-    requires command { IsCommandOfHash (map string_bytes words.now) (codes "tree") hash }
-    ensures written { result ≡ 0 → Listed (map string_bytes words.now) (S.rest input.old)
+    requires command { IsCommandOfHash (map string_bytes arguments.now) (codes "tree") hash }
+    ensures written { result ≡ 0 → Listed (map string_bytes arguments.now) (S.rest input.old)
         (S.rest input.new) (O.view output.old) (O.view output.new) }
-    ensures error { result ≢ 0 → IsUnlisted (map string_bytes words.now) (S.rest input.old)
+    ensures error { result ≢ 0 → IsUnlisted (map string_bytes arguments.now) (S.rest input.old)
         (S.rest input.new) (S.may_fail input.old) (O.view output.old) (O.view output.new)
         (E.view errors.old) (E.view errors.new) (output.new ≡ output.old) result }
     ensures no_error { result ≡ 0 → errors.new ≡ errors.old }
     ensures same_loans { (S.loan input.new ≡ S.loan input.old)
         × (O.loan output.new ≡ O.loan output.old) × (E.loan errors.new ≡ E.loan errors.old) }
 {
-    match listed(alloc, words, hash, input, output) {
+    match listed(alloc, arguments, hash, input, output) {
         Ok(()) => 0,
         Err(failure) => report_to(failure, errors),
     }
 }
 
-/// Reads the input, and writes the list of its tree. `words` have to request `tree` with `hash`.
+/// Reads the input, and writes the list of its tree. `arguments` have to request `tree` with `hash`.
 fn listed<S: Source, O: Sink>(
     alloc: Global,
-    words: &[String],
+    arguments: &[String],
     hash: hash::Kind,
     input: &mut S,
     output: &mut O,
 ) -> Result<(), Failure>
-    requires command { IsCommandOfHash (map string_bytes words.now) (codes "tree") hash }
-    ensures written { OnOk result (Listed (map string_bytes words.now) (S.rest input.old)
+    requires command { IsCommandOfHash (map string_bytes arguments.now) (codes "tree") hash }
+    ensures written { OnOk result (Listed (map string_bytes arguments.now) (S.rest input.old)
         (S.rest input.new) (O.view output.old) (O.view output.new)) }
-    ensures error { IfErr result (IsListError (map string_bytes words.now) (S.rest input.old)
+    ensures error { IfErr result (IsListError (map string_bytes arguments.now) (S.rest input.old)
         (S.rest input.new) (S.may_fail input.old) (O.view output.old) (O.view output.new)) }
     ensures nothing_written { IfErr result (HasWrittenNothing (output.new ≡ output.old)) }
     ensures same_loans { (S.loan input.new ≡ S.loan input.old)

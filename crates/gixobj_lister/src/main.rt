@@ -11,9 +11,9 @@ use std::process::ExitCode;
 fn main(rt: HostRuntime) -> ExitCode {
     let mut errors = rt.stderr();
     ExitCode::from(match process_arguments(&rt) {
-        Ok(words) => engine(
+        Ok(arguments) => engine(
             rt.alloc(),
-            words.as_slice(),
+            arguments.as_slice(),
             &mut rt.reader(),
             &mut rt.stdout(),
             &mut errors,

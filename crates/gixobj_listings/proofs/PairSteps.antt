@@ -1,5 +1,5 @@
--- The loop of a comparison: the sides of its first pair, and the paths of its changes; `next_pair` and
--- `opened_changes` use it.
+-- A step of a comparison consumes its first pair of entries, and its changes have paths that begin there; `next_pair`
+-- and `opened_changes` use it.
 use Rattle.std.proofs.Common.{◌≡◌, ◌∙◌, inl, inr, true, List, [], ◌∷◌, ◌++◌, ap, refl, subst, sym, Some, None}
 use Rattle.std.specs.Cmp.Lexicographic.{bytes_decides, nat_list_cmp_total, slice_cmp, texts_ties}
 use Rattle.std.specs.List.{AllByRecursion}

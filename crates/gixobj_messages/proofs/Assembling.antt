@@ -1,4 +1,5 @@
--- Messages and their trailers, part by part; the proofs of `message_of` and `message_with_description` use them.
+-- A message that is assembled part by part is its title, body and trailer lines, one after the other; the proofs of
+-- `message_of` and `message_with_description` use it.
 use Rattle.std.proofs.Common.{◌≡◌, ◌≢◌, ◌∙◌, ◌+◌, ◌<◌, ◌≤◌, ◌++◌, ◌∷◌, ℕ, [], List, Some, ap, append-nil, append_assoc, arith, drop, drop-cons, get_or, length, subst, suc, sym, take}
 use Rattle.std.proofs.lemmas.List.{length-take-le, take-append-drop, take_all, take_more}
 use Rattle.std.proofs.lemmas.List.Elements.{All-append, All-cons, All-nil}

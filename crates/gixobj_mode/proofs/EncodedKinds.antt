@@ -63,12 +63,12 @@ begins_with_kind_of_take kind digits content count is same =
     let rest : List ℕ = drop count content in
     let joined : content ≡ (digits ++ 32 ∷ []) ++ rest = sym (take-append-drop count content) ∙ ap (λ (it : List ℕ). it ++ rest) same in
     let parted : content ≡ digits ++ 32 ∷ rest = joined ∙ append_assoc digits (32 ∷ []) rest in
-    let cut : drop (length digits) content ≡ 32 ∷ rest = ap (drop (length digits)) parted ∙ drop-append_seam digits (32 ∷ rest) in
+    let split : drop (length digits) content ≡ 32 ∷ rest = ap (drop (length digits)) parted ∙ drop-append_seam digits (32 ∷ rest) in
     record {
       name = rest;
-      spaced = cut;
+      spaced = split;
       joined = parted ∙ ap (λ (it : List ℕ). it ++ 32 ∷ rest) is ∙ ap (λ (it : List ℕ). encode_mode (mode_of_kind kind) ++ it)
-          (sym cut);
+          (sym split);
     }
 
 pub begins_with_blob_mode : (content : List ℕ) → Bytes content → 8 ≤ length content → from_be_bytes w64 (0 ∷ take 7 content) ≡ from_be_bytes w64

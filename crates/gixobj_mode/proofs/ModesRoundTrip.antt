@@ -126,7 +126,7 @@ mode_decodes_of_flags n false true true is_zero is_four is_one small kept =
     let above : old_tree_type ≤ n = omega (arith, four, one, small) in
     let below : n < old_tree_type + 4096 = omega (arith, four, one, small) in
     let same : old_tree_type ≡ n =
-    elim (cases_lt old_tree_type n) [ inl more ↦ absurd (kept (more, below)) | inr least ↦ omega (arith, above, least) ] in
+    elim (cases_lt old_tree_type n) [ inl more ↦ absurd (kept (more, below)) | inr minimum ↦ omega (arith, above, minimum) ] in
     let P : ℕ → Type 0 = λ it. DecodesToMode (codes "0" ++ last_digits it) it in subst P same old_tree_mode_decodes
 
 -- an encoded mode of 16 bits decodes to the same mode, except for 0o140001 to 0o147777, whose first digit is left out

@@ -31,10 +31,10 @@ digits_value_after_cons_mod number value digit rest is octal =
 pub one_more_digit : (digits : List ℕ) (at number value : ℕ) → at < length digits → value ≡ get_or digits at 0 - 48 → AllDigits 8 (drop at digits)
     → OneMore digits at number value
 one_more_digit digits at number value within is octal =
-    let cut : drop at digits ≡ get_or digits at 0 ∷ drop (at + 1) digits = drop_more digits at 0 within in
-    let entire : AllDigits 8 (get_or digits at 0 ∷ drop (at + 1) digits) = (let P : List ℕ → Type 0 = AllDigits 8 in subst P cut octal) in
+    let split : drop at digits ≡ get_or digits at 0 ∷ drop (at + 1) digits = drop_more digits at 0 within in
+    let entire : AllDigits 8 (get_or digits at 0 ∷ drop (at + 1) digits) = (let P : List ℕ → Type 0 = AllDigits 8 in subst P split octal) in
     record {
       octal = entire.1;
       same = digits_value_after_cons_mod number value (get_or digits at 0) (drop (at + 1) digits) is entire
-          ∙ ap (λ it. digits_value_after 8 number it % 65536) (sym cut);
+          ∙ ap (λ it. digits_value_after 8 number it % 65536) (sym split);
     }

@@ -160,8 +160,8 @@ module _ {S : Type 0} (runs : S → CallView → Answer → S → Type 0) (by : 
         (reported_injective outcome (evaluated seen.success by.minimum (ssh_report (human seen) (Some principal) trust.Fully)) same);
     last = λ rejected. absurd (let never : true ≡ false = sym is ∙ rejected in cc);
   }
-  one_tried principal principals seen s m t outcome run more false is went =
-      elim (more went) [
+  one_tried principal principals seen s m t outcome run more false is outcome_is =
+      elim (more outcome_is) [
         | inl later ↦ record {
           before = principal ∷ later.before;
           principal = later.principal;
@@ -201,9 +201,9 @@ module _ {S : Type 0} (runs : S → CallView → Answer → S → Type 0) (by : 
       absurd (failed_run_is_not_valid by (ssh_report (human seen) None trust.Undefined) (sym (ap (λ (it : OutcomeView). it.valid) is) ∙ valid))
   all_tried [] None s t outcome (failed why, m, run, (same, end)) valid = absurd (let never : reported outcome ≡ not_run why = same in cc)
   all_tried [] None s t outcome (no_memory, m, run, none) valid = absurd none
-  all_tried (principal ∷ principals) last s t outcome (ran seen, m, run, went) valid =
+  all_tried (principal ∷ principals) last s t outcome (ran seen, m, run, outcome_is) valid =
       inl (one_tried principal principals seen s m t outcome run (λ remaining. all_tried principals (Some seen) m t outcome remaining valid)
-      (accepts seen) refl went)
+      (accepts seen) refl outcome_is)
   all_tried (principal ∷ principals) last s t outcome (failed why, m, run, (same, end)) valid =
       absurd (let never : reported outcome ≡ not_run why = same in cc)
   all_tried (principal ∷ principals) last s t outcome (no_memory, m, run, none) valid = absurd none
@@ -214,17 +214,17 @@ module _ {S : Type 0} (runs : S → CallView → Answer → S → Type 0) (by : 
       (reported outcome) t
       → outcome.valid ≡ true
       → (named.success ≡ true) × Tries runs by ssh signature signed (principals_in named.stdout) first outcome t
-  named_some named first t outcome true is went valid =
-      elim (all_tried (principals_in named.stdout) None first t outcome went valid) [ inl it ↦ (is, it) | inr never ↦ absurd never ]
-  named_some named first t outcome false is went valid =
-      elim (all_tried [] None first t outcome went valid)
+  named_some named first t outcome true is outcome_is valid =
+      elim (all_tried (principals_in named.stdout) None first t outcome outcome_is valid) [ inl it ↦ (is, it) | inr never ↦ absurd never ]
+  named_some named first t outcome false is outcome_is valid =
+      elim (all_tried [] None first t outcome outcome_is valid)
       [ inl it ↦ absurd (nil_ne_append_cons it.before it.principal it.following it.all) | inr never ↦ absurd never ]
 
   ssh_accepted : (s t : S) (outcome : OutcomeView)
       → CarriesOut runs (ssh_verify_plan by ssh signature signed) s (reported outcome) t → outcome.valid ≡ true
       → AcceptsPrincipal runs by ssh signature signed s outcome t
-  ssh_accepted s t outcome (ran named, first, run, went) valid =
-      let (is_named, it) = named_some named first t outcome named.success refl went valid in
+  ssh_accepted s t outcome (ran named, first, run, outcome_is) valid =
+      let (is_named, it) = named_some named first t outcome named.success refl outcome_is valid in
       let (succeeded, good, trusted) = ssh_report_good_of_valid it.yielded.success by (human it.yielded) (cond (accepts it.yielded) (Some it.principal) None)
       trust.Fully
       (sym (ap (λ (it : OutcomeView). it.valid) it.announced) ∙ valid) in
@@ -259,12 +259,12 @@ pub vouches_of_acceptance : {S : Type 0} (runs : S → CallView → Answer → S
     (outcome : OutcomeView)
     → CarriesOut runs (verify_plan it signature signed format) s (reported outcome) t → outcome.valid ≡ true
     → Vouches runs it signature signed s outcome t
-vouches_of_acceptance runs (by_open_pgp by) signature signed (Some format.OpenPgp) s t outcome went valid =
-    gpg_reports_good_of_valid runs format.OpenPgp by (open_pgp_call by signature signed) s t outcome went valid
-vouches_of_acceptance runs (by_x509 by) signature signed (Some format.X509) s t outcome went valid =
-    gpg_reports_good_of_valid runs format.X509 by (x509_call by signature signed) s t outcome went valid
-vouches_of_acceptance runs (by_ssh by ssh) signature signed (Some format.Ssh) s t outcome went valid =
-    ssh_accepted runs by ssh signature signed s t outcome went valid
+vouches_of_acceptance runs (by_open_pgp by) signature signed (Some format.OpenPgp) s t outcome outcome_is valid =
+    gpg_reports_good_of_valid runs format.OpenPgp by (open_pgp_call by signature signed) s t outcome outcome_is valid
+vouches_of_acceptance runs (by_x509 by) signature signed (Some format.X509) s t outcome outcome_is valid =
+    gpg_reports_good_of_valid runs format.X509 by (x509_call by signature signed) s t outcome outcome_is valid
+vouches_of_acceptance runs (by_ssh by ssh) signature signed (Some format.Ssh) s t outcome outcome_is valid =
+    ssh_accepted runs by ssh signature signed s t outcome outcome_is valid
 vouches_of_acceptance runs (by_open_pgp by) signature signed None s t outcome (same, end) valid =
     absurd (let never : reported outcome ≡ unsupported = same in cc)
 vouches_of_acceptance runs (by_x509 by) signature signed None s t outcome (same, end) valid = absurd (let never : reported outcome ≡ unsupported = same in cc)
@@ -289,6 +289,6 @@ pub vouches_of_valid_outcome : {S : Type 0} (runs : S → CallView → Answer �
     (s t : S) (result : Result Outcome Error)
     → IsOutcomeOf runs (verify_plan it signature signed format) s result t
     → IfOk result (λ outcome. (outcome_view outcome).valid ≡ true → Vouches runs it signature signed s (outcome_view outcome) t)
-vouches_of_valid_outcome runs it signature signed format s t (Ok outcome) went = λ valid. vouches_of_acceptance runs it signature signed format s t
-    (outcome_view outcome) went valid
-vouches_of_valid_outcome runs it signature signed format s t (Err error) went = tt
+vouches_of_valid_outcome runs it signature signed format s t (Ok outcome) outcome_is = λ valid. vouches_of_acceptance runs it signature signed format s t
+    (outcome_view outcome) outcome_is valid
+vouches_of_valid_outcome runs it signature signed format s t (Err error) outcome_is = tt

@@ -3,7 +3,7 @@ ghost use Rattle.std.specs.Prelude.{◌≡◌, IfOk, codes, map};
 ghost use Rattle.std.specs.List.{AllZip};
 ghost use Rattle.bstr.specs.BStr.{bstr_bytes};
 ghost use Rattle.gix_object.specs.CommitViews.{commit_lines, owned_commit_lines};
-ghost use Rattle.gix_object.specs.ExtraHeaders.{IsFirstPlace, IsFirstValue, values_named};
+ghost use Rattle.gix_object.specs.ExtraHeaders.{IsFirstPosition, IsFirstValue, values_named};
 ghost use Rattle.gix_object.specs.Hash.{IsIdHex};
 ghost use Rattle.gix_object.specs.Hash.Hex.{IsIdHexOfKind};
 ghost use Rattle.gix_object.specs.Mergetags.{IsTagOf};
@@ -32,7 +32,7 @@ pub fn value_of<'a>(commit: &'a CommitRef<'_>, name: &str) -> Option<BStr<'a>>
 /// Returns the position of the first header of this name in an owned commit, or `None` if there is none.
 /// Allocates nothing.
 pub fn position_of(commit: &Commit, name: &str) -> Option<usize>
-    ensures { IsFirstPlace name.now (owned_commit_lines commit.now).extra_headers result }
+    ensures { IsFirstPosition name.now (owned_commit_lines commit.now).extra_headers result }
 {
     owned_header_search_complete();
     commit.extra_headers().find_pos(name)

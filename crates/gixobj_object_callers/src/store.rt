@@ -141,8 +141,9 @@ pub fn owned_copy_of(alloc: Global, bytes: &[u8], kind: Kind) -> Result<Vec<u8>,
 /// - [`CopyError::Read`] if decoding fails.
 ///
 /// If each entry round-trips, the call fails only for memory.
-pub fn read_back(alloc: Global, tree: &Tree, kind: Kind) -> Result<Tree, CopyError>
-    ensures unchanged { IfOk result (λ back. All (RoundTrips kind) tree.now → back ≡ tree.now) }
+pub fn round_trip(alloc: Global, tree: &Tree, kind: Kind) -> Result<Tree, CopyError>
+    ensures unchanged { IfOk result (λ decoded. All (RoundTrips kind) tree.now
+        → decoded ≡ tree.now) }
     ensures error { IfErr result (λ error. All (RoundTrips kind) tree.now → FailsForRoom error) }
 {
     tree_decodes_uniquely();
@@ -153,11 +154,11 @@ pub fn read_back(alloc: Global, tree: &Tree, kind: Kind) -> Result<Tree, CopyErr
     if let Err(error) = tree.write_to_vec(alloc, &mut bytes) {
         return Err(CopyError::Write(error));
     }
-    let back = match TreeRef::from_bytes(alloc, &bytes, kind) {
-        Ok(back) => back,
+    let decoded = match TreeRef::from_bytes(alloc, &bytes, kind) {
+        Ok(decoded) => decoded,
         Err(error) => return Err(CopyError::Read(error)),
     };
-    match back.into_owned(alloc) {
+    match decoded.into_owned(alloc) {
         Ok(copy) => Ok(copy),
         Err(error) => Err(CopyError::Read(error.into())),
     }

@@ -1,5 +1,5 @@
--- The bases after an edit of one level, or an opening in it: for the edits and openings of open directories, and for
--- the editor.
+-- An edit of one level, or an opening in it, changes the bases as it changes the open directories: for the edits and
+-- openings of open directories, and for the editor.
 use Rattle.std.proofs.Common.{◌≡◌, ◌≢◌, ◌∙◌, ℕ, true, false, cond, List, [], ◌∷◌, Option, Some, None, refl, sym, ap, subst}
 use Rattle.std.specs.List.{AllByRecursion}
 use Rattle.gixobj_open.specs.declared.open.Child.{Child}
@@ -98,12 +98,12 @@ base_opened_of_found es [] new root = sym root
 base_opened_of_found es (name ∷ path) new root = refl
 
 -- a written directory is open alone, with its base
-pub base_edited_of_written : (old : Opened) (es own base : List EntryView) → dirs_of old [] ≡ Some es → bases_of old [] ≡ Some base → (at : Path)
-    → bases_of (opened own base []) at ≡ base_edited (dirs_of old at) (dirs_of (opened own base []) at) (bases_of old at)
-base_edited_of_written old es own base root is [] = ap (λ o. base_edited o (Some own) (Some base)) (sym root)
-    ∙ ap (λ o. base_edited (dirs_of old []) (Some own) o)
+pub base_edited_of_written : (old : Opened) (es written_tree base : List EntryView) → dirs_of old [] ≡ Some es → bases_of old [] ≡ Some base → (at : Path)
+    → bases_of (opened written_tree base []) at ≡ base_edited (dirs_of old at) (dirs_of (opened written_tree base []) at) (bases_of old at)
+base_edited_of_written old es written_tree base root is [] = ap (λ o. base_edited o (Some written_tree) (Some base)) (sym root)
+    ∙ ap (λ o. base_edited (dirs_of old []) (Some written_tree) o)
     (sym is)
-base_edited_of_written old es own base root is (name ∷ path) = refl
+base_edited_of_written old es written_tree base root is (name ∷ path) = refl
 
 -- the bases after a directory in it was replaced, added or closed
 module _ (g : OfBase) (settles : Settles g) (old : Opened) (es : List EntryView) where

@@ -75,11 +75,11 @@ module _ (side : Level → List EntryView) where
       let out : Dirs = at_side side above in
       let below : in_path (reverse names) entire ≡ at_side side (with_inner name here above) =
       at_rebuilt names (inner name above) (with_inner name here above) are.1 in
-      let placed : at_side side (with_inner name here above) ≡ with_dir name (at_side side here) out =
+      let with_dir_is : at_side side (with_inner name here above) ≡ with_dir name (at_side side here) out =
       λ i q. at_with_inner side name here above are.0 q i in
       let step : (q : Path) → at_side side (with_inner name next above) q ≡ with_dir name (at_side side next) (in_path (reverse names) entire) q =
       λ q. at_with_inner side name next above are.0 q ∙ with_dir_twice name (at_side side next) (at_side side here) out q
-      ∙ ap (λ (d : Dirs). with_dir name (at_side side next) d q) (sym (below ∙ placed)) in
+      ∙ ap (λ (d : Dirs). with_dir name (at_side side next) d q) (sym (below ∙ with_dir_is)) in
       rebuilt_with names (inner name above) (with_inner name here above) (with_inner name next above) are.1 at
       ∙ with_path_same (reverse names) (at_side side (with_inner name next above)) (with_dir name (at_side side next) (in_path (reverse names) entire)) entire
       step at
@@ -155,8 +155,8 @@ names_of_take_more path k name low is =
     ap names_of (take_more path k name low) ∙ map-append bstring_bytes (take k path) (get_or path k name ∷ [])
     ∙ ap (λ (n : BString). names_of (take k path) ++ bstring_bytes n ∷ []) (sym is)
 
-pub names_of_parts : (path passed rest : List BString) → path ≡ passed ++ rest → names_of path ≡ names_of passed ++ names_of rest
-names_of_parts path passed rest is = ap names_of is ∙ map-append bstring_bytes passed rest
+pub names_of_parts : (path consumed rest : List BString) → path ≡ consumed ++ rest → names_of path ≡ names_of consumed ++ names_of rest
+names_of_parts path consumed rest is = ap names_of is ∙ map-append bstring_bytes consumed rest
 
 pub non_empty_of_len : (path : List BString) → 0 < length path → path ≢ []
 non_empty_of_len path long none =
@@ -202,10 +202,10 @@ ensured_dirs_append (n ∷ path) rest null dirs trees (first ∷ at) =
     ap (λ o. cond (same_name n first) o (dirs (first ∷ at))) (ensured_dirs_append path rest null (in_dir n dirs) trees.1 at)
 
 -- an edit in the directory reached is one at the entire path
-module _ (path passed rest : List BString) (path_is : path ≡ passed ++ rest) {old here above : Opened} (new next : Opened)
-    (descended : IsDescended (names_of passed) old here above) (new_is : new ≡ rebuilt (reverse (names_of passed)) above next) where
-  names_are : names_of path ≡ names_of passed ++ names_of rest
-  names_are = names_of_parts path passed rest path_is
+module _ (path consumed rest : List BString) (path_is : path ≡ consumed ++ rest) {old here above : Opened} (new next : Opened)
+    (descended : IsDescended (names_of consumed) old here above) (new_is : new ≡ rebuilt (reverse (names_of consumed)) above next) where
+  names_are : names_of path ≡ names_of consumed ++ names_of rest
+  names_are = names_of_parts path consumed rest path_is
 
   pub bases_of_ascent : (g : OfBase) → Settles g
       → ((at : Path) → bases_of next at ≡ g (dirs_of here at) (dirs_of next at) (bases_of here at)) → (at : Path)
@@ -214,11 +214,11 @@ module _ (path passed rest : List BString) (path_is : path ≡ passed ++ rest) {
 
   -- a change in the directory reached, by what it is at the entire path
   of_ascent : (change : Dirs → Dirs) (entire : Dirs) → ((at : Path) → dirs_of next at ≡ change (dirs_of here) at)
-      → ((at : Path) → entire at ≡ with_path (names_of passed) (change (in_path (names_of passed) (dirs_of old))) (dirs_of old) at) → (at : Path)
+      → ((at : Path) → entire at ≡ with_path (names_of consumed) (change (in_path (names_of consumed) (dirs_of old))) (dirs_of old) at) → (at : Path)
       → dirs_of new at ≡ entire at
   of_ascent change entire inside append at =
       at_ascent descended new next new_is entries_side at
-      ∙ with_path_same (names_of passed) (dirs_of next) (change (in_path (names_of passed) (dirs_of old))) (dirs_of old)
+      ∙ with_path_same (names_of consumed) (dirs_of next) (change (in_path (names_of consumed) (dirs_of old))) (dirs_of old)
       (λ q. inside q ∙ ap (λ (d : Dirs). change d q) (sym (at_descent descended entries_side))) at ∙ sym (append at)
 
   pub removed_of_ascent : rest ≢ [] → ((at : Path) → dirs_of next at ≡ removed_dirs (names_of rest) (dirs_of here) at) → (at : Path)
@@ -227,10 +227,10 @@ module _ (path passed rest : List BString) (path_is : path ≡ passed ++ rest) {
       of_ascent (removed_dirs (names_of rest)) (removed_dirs (names_of path) (dirs_of old)) inside
       (λ q. ap (λ (p : Path). removed_dirs p (dirs_of old) q) names_are ∙ append rest filled q) at
     where
-      append : (r : List BString) → r ≢ [] → (q : Path) → removed_dirs (names_of passed ++ names_of r) (dirs_of old) q
-          ≡ with_path (names_of passed) (removed_dirs (names_of r) (in_path (names_of passed) (dirs_of old))) (dirs_of old) q
+      append : (r : List BString) → r ≢ [] → (q : Path) → removed_dirs (names_of consumed ++ names_of r) (dirs_of old) q
+          ≡ with_path (names_of consumed) (removed_dirs (names_of r) (in_path (names_of consumed) (dirs_of old))) (dirs_of old) q
       append [] some q = absurd (some refl)
-      append (name ∷ r) some q = removed_dirs_append (names_of passed) (bstring_bytes name) (names_of r) (dirs_of old) q
+      append (name ∷ r) some q = removed_dirs_append (names_of consumed) (bstring_bytes name) (names_of r) (dirs_of old) q
 
   pub upserted_of_ascent : (mode : ℕ) (id null : ObjectId) → rest ≢ []
       → ((at : Path) → dirs_of next at ≡ upserted_dirs (names_of rest) mode id null (dirs_of here) at) → (at : Path)
@@ -239,34 +239,34 @@ module _ (path passed rest : List BString) (path_is : path ≡ passed ++ rest) {
       of_ascent (upserted_dirs (names_of rest) mode id null) (upserted_dirs (names_of path) mode id null (dirs_of old)) inside
       (λ q. ap (λ (p : Path). upserted_dirs p mode id null (dirs_of old) q) names_are ∙ append rest filled q) at
     where
-      append : (r : List BString) → r ≢ [] → (q : Path) → upserted_dirs (names_of passed ++ names_of r) mode id null (dirs_of old) q
-          ≡ with_path (names_of passed) (upserted_dirs (names_of r) mode id null (in_path (names_of passed) (dirs_of old))) (dirs_of old) q
+      append : (r : List BString) → r ≢ [] → (q : Path) → upserted_dirs (names_of consumed ++ names_of r) mode id null (dirs_of old) q
+          ≡ with_path (names_of consumed) (upserted_dirs (names_of r) mode id null (in_path (names_of consumed) (dirs_of old))) (dirs_of old) q
       append [] some q = absurd (some refl)
-      append (name ∷ r) some q = upserted_dirs_append (names_of passed) (bstring_bytes name) (names_of r) mode id null (dirs_of old) descended.trees q
+      append (name ∷ r) some q = upserted_dirs_append (names_of consumed) (bstring_bytes name) (names_of r) mode id null (dirs_of old) descended.trees q
 
   pub ensured_of_ascent : (null : ObjectId) → ((at : Path) → dirs_of next at ≡ ensured_dirs (names_of rest) null (dirs_of here) at) → (at : Path)
       → dirs_of new at ≡ ensured_dirs (names_of path) null (dirs_of old) at
   ensured_of_ascent null inside at =
       of_ascent (ensured_dirs (names_of rest) null) (ensured_dirs (names_of path) null (dirs_of old)) inside
       (λ q. ap (λ (p : Path). ensured_dirs p null (dirs_of old) q) names_are
-      ∙ ensured_dirs_append (names_of passed) (names_of rest) null (dirs_of old) descended.trees q) at
+      ∙ ensured_dirs_append (names_of consumed) (names_of rest) null (dirs_of old) descended.trees q) at
 
   pub written_of_ascent : (last : Dirs) → ((at : Path) → dirs_of next at ≡ with_path (names_of rest) last (dirs_of here) at) → (at : Path)
       → dirs_of new at ≡ with_path (names_of path) last (dirs_of old) at
   written_of_ascent last inside at =
       of_ascent (with_path (names_of rest) last) (with_path (names_of path) last (dirs_of old)) inside
-      (λ q. ap (λ (p : Path). with_path p last (dirs_of old) q) names_are ∙ with_path_append (names_of passed) (names_of rest) last (dirs_of old) q) at
+      (λ q. ap (λ (p : Path). with_path p last (dirs_of old) q) names_are ∙ with_path_append (names_of consumed) (names_of rest) last (dirs_of old) q) at
 
 -- what is at the rest of the path in the directory reached is at the entire path
-pub at_path_of_descent : (path passed rest : List BString) → path ≡ passed ++ rest → {old here above : Opened}
-    → IsDescended (names_of passed) old here above → (side : Level → List EntryView)
+pub at_path_of_descent : (path consumed rest : List BString) → path ≡ consumed ++ rest → {old here above : Opened}
+    → IsDescended (names_of consumed) old here above → (side : Level → List EntryView)
     → in_path (names_of rest) (at_side side here) ≡ in_path (names_of path) (at_side side old)
-at_path_of_descent path passed rest path_is {old} descended side =
-    ap (in_path (names_of rest)) (sym (at_descent descended side)) ∙ sym (in_path_append (names_of passed) (names_of rest) (at_side side old))
-    ∙ ap (λ (p : Path). in_path p (at_side side old)) (sym (names_of_parts path passed rest path_is))
+at_path_of_descent path consumed rest path_is {old} descended side =
+    ap (in_path (names_of rest)) (sym (at_descent descended side)) ∙ sym (in_path_append (names_of consumed) (names_of rest) (at_side side old))
+    ∙ ap (λ (p : Path). in_path p (at_side side old)) (sym (names_of_parts path consumed rest path_is))
 
-pub place_of_descent : (path passed rest : List BString) → path ≡ passed ++ rest → {old here above : Opened}
-    → IsDescended (names_of passed) old here above → dirs_of here (names_of rest) ≡ dirs_of old (names_of path)
-place_of_descent path passed rest path_is {old} {here} descended =
+pub dirs_of_descent : (path consumed rest : List BString) → path ≡ consumed ++ rest → {old here above : Opened}
+    → IsDescended (names_of consumed) old here above → dirs_of here (names_of rest) ≡ dirs_of old (names_of path)
+dirs_of_descent path consumed rest path_is {old} {here} descended =
     ap (dirs_of here) (sym (append-nil (names_of rest)))
-    ∙ ap (λ (d : Dirs). d []) (at_path_of_descent path passed rest path_is descended entries_side) ∙ ap (dirs_of old) (append-nil (names_of path))
+    ∙ ap (λ (d : Dirs). d []) (at_path_of_descent path consumed rest path_is descended entries_side) ∙ ap (dirs_of old) (append-nil (names_of path))

@@ -1,4 +1,5 @@
--- The first and the last open directory of a list in pieces, and the list without the last: for drops and leaf trees.
+-- A list in pieces without its last open directory, or with another first one, is the list without the last, or with
+-- another first one: for drops and leaf trees.
 use Rattle.std.proofs.Common.{◌≡◌, ◌≢◌, ◌∙◌, ◌≤◌, ◌+◌, ℕ, Less, true, List, [], ◌∷◌, ◌++◌, get_or, set, length, length-append, refl, sym, ap, subst, arith}
 use Rattle.std.proofs.lemmas.List.{map-append}
 use Rattle.std.specs.List.{flat_map}
@@ -11,7 +12,7 @@ use Rattle.gixobj_files.specs.Editing.{has_tree}
 use Rattle.gixobj_sorted.specs.Pieces.{AreNonEmpty}
 use Rattle.gixobj_sorted.proofs.Keys.{all_of_append_left, each_later_of_append_left}
 use Rattle.gixobj_tree.specs.Entries.{EntryView}
-use Rattle.gixobj_open.specs.Children.{IsAt, place_index, with_child}
+use Rattle.gixobj_open.specs.Children.{IsAt, index_of_child, with_child}
 use Rattle.gixobj_open.specs.Decreases.{length-below_append}
 use Rattle.gixobj_open.specs.Nested.{AreFilled, IsLevel, IsPiecedLevel, Opened, Part, below, child_list, length-under, part, part_key, parts, under}
 use Rattle.gixobj_open.specs.declared.open.Child.{Child}
@@ -88,7 +89,7 @@ has_first_of_set (c ∷ cs) child next some is = record {
 }
 
 module _ (children : Children) (piece index : ℕ) (child : Child) (next : Opened) (some : child_list children ≢ []) (within : IsAt children piece index)
-    (first : place_index children piece index ≡ 0) (is : child ≡ get_or (child_list children) (place_index children piece index) child) where
+    (first : index_of_child children piece index ≡ 0) (is : child ≡ get_or (child_list children) (index_of_child children piece index) child) where
   pub has_first_of_position : HasFirst (child_list children)
       (child_list (with_child children piece index (record { name = child.name; «open» = next }))) child.open next
   has_first_of_position =

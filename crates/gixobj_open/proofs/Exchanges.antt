@@ -1,4 +1,5 @@
--- The laws of `inner` and `with_inner`: of any list of open directories, and of one level. Descents use them.
+-- The directory that `with_inner` sets at a name is the one that `inner` finds there, in any list of open directories
+-- and in one level. Descents use it.
 use mathlib.Core.Bool.{true≢false}
 use Rattle.std.proofs.Common.{zero, suc, ◌≡◌, ◌≢◌, ◌<◌, ◌+◌, ℕ, true, false, not, cond, List, [], ◌∷◌, ◌++◌, Some, None, get_or, length, nat_lt, refl, sym, ap, subst, ◌∙◌, one-add, arith}
 use Rattle.std.specs.Prelude.{◌&&◌, ◌||◌, set}
@@ -141,9 +142,9 @@ name_of_position name (c ∷ cs) d low =
 
 is_inner : {name : List ℕ} {cs : List Child} {i : ℕ} {child : Child} → IsChild name cs i child → child.open ≢ [] → IsInner name cs i child
 is_inner {name} {cs} {i} {child} here filled =
-    let place : ℕ = position_or_len (called name) cs in
-    let chose = true_of_cond_some (nat_lt place (length cs)) place i here.found in
-    let low : place < length cs = ltb-true _ _ chose.0 in record {
+    let child_position : ℕ = position_or_len (called name) cs in
+    let chose = true_of_cond_some (nat_lt child_position (length cs)) child_position i here.found in
+    let low : child_position < length cs = ltb-true _ _ chose.0 in record {
       low = subst (λ (k : ℕ). k < length cs) chose.1 low;
       is = here.is;
       named = ap (λ (d : Child). bstring_bytes d.name) (here.is ∙ ap (λ k. get_or cs k child) (sym chose.1)) ∙ name_of_position name cs child low;

@@ -1,5 +1,5 @@
--- Leaf trees in the order of their emission: for the functions of `leaf_trees` and `dropping`, and for the leaf trees
--- that a write moves.
+-- The leaf trees of a directory are those of its open directories in order, or its entries alone: for the functions of
+-- `leaf_trees` and `dropping`, and for the leaf trees that a write moves.
 use Rattle.std.proofs.Common.{◌≡◌, ◌≢◌, ◌∙◌, ◌+◌, ℕ, Bool, false, not, cond, List, [], ◌∷◌, ◌++◌, Some, length, refl, sym, ap, subst, arith, append_assoc, append-nil, length-append}
 use Rattle.std.specs.Prelude.{◌&&◌}
 use Rattle.std.specs.List.{AllByRecursion}
@@ -15,8 +15,8 @@ use Rattle.gixobj_open.specs.Nested.{Level, Opened, Part, bases_of, below, lengt
 use Rattle.gixobj_open.specs.LeafTrees.{is_at_or_below, is_above, is_leaf_tree, leaf_trees}
 
 -- what a directory adds to the leaf trees, by whether it is above the next
-abbrev own_leaf_tree : Bool → Level → List (List EntryView)
-own_leaf_tree above level = cond (not above && is_leaf_tree level) (level.0 ∷ []) []
+abbrev leaf_tree_of_open : Bool → Level → List (List EntryView)
+leaf_tree_of_open above level = cond (not above && is_leaf_tree level) (level.0 ∷ []) []
 
 is_above_under : (name : List ℕ) (path : Path) (ds : Opened) → is_above (name ∷ path) (under name ds) ≡ is_above path ds
 is_above_under name path [] = refl
@@ -37,12 +37,12 @@ not_is_above_below name path (p ∷ ps) others = is_above_under_append name path
 leaf_trees_under_append : (name : List ℕ) (ds : Opened) (rest : Opened) → ((path : Path) → is_above (name ∷ path) rest ≡ false)
     → leaf_trees (under name ds ++ rest) ≡ leaf_trees ds ++ leaf_trees rest
 leaf_trees_under_append name [] rest none = refl
-leaf_trees_under_append name (d ∷ []) rest none = ap (λ b. own_leaf_tree b d.1 ++ leaf_trees rest) (none d.0)
-    ∙ sym (append_assoc (own_leaf_tree false d.1) [] (leaf_trees rest))
+leaf_trees_under_append name (d ∷ []) rest none = ap (λ b. leaf_tree_of_open b d.1 ++ leaf_trees rest) (none d.0)
+    ∙ sym (append_assoc (leaf_tree_of_open false d.1) [] (leaf_trees rest))
 leaf_trees_under_append name (d ∷ e ∷ ds) rest none =
-    ap (λ b. own_leaf_tree b d.1 ++ leaf_trees (under name (e ∷ ds) ++ rest)) (is_above_under name d.0 (e ∷ ds))
-    ∙ ap (λ ts. own_leaf_tree (is_above d.0 (e ∷ ds)) d.1 ++ ts) (leaf_trees_under_append name (e ∷ ds) rest none)
-    ∙ sym (append_assoc (own_leaf_tree (is_above d.0 (e ∷ ds)) d.1) (leaf_trees (e ∷ ds)) (leaf_trees rest))
+    ap (λ b. leaf_tree_of_open b d.1 ++ leaf_trees (under name (e ∷ ds) ++ rest)) (is_above_under name d.0 (e ∷ ds))
+    ∙ ap (λ ts. leaf_tree_of_open (is_above d.0 (e ∷ ds)) d.1 ++ ts) (leaf_trees_under_append name (e ∷ ds) rest none)
+    ∙ sym (append_assoc (leaf_tree_of_open (is_above d.0 (e ∷ ds)) d.1) (leaf_trees (e ∷ ds)) (leaf_trees rest))
 
 pub leaf_trees_below_cons : (p : Part) (ps : List Part) → AllByRecursion (λ q. p.0 ≢ q.0) ps → leaf_trees (below (p ∷ ps)) ≡ leaf_trees p.1 ++ leaf_trees
     (below ps)
@@ -70,7 +70,7 @@ pub below_ne_nil : (name : List ℕ) (ds : Opened) (ps : List Part) (found : Lis
 below_ne_nil name [] ps found is none = absurd (cc is)
 below_ne_nil name (d ∷ ds) ps found is none = absurd (cc none)
 
--- a directory with no open directory has at most its own tree as a leaf tree
+-- a directory with no open directory is at most one leaf tree, that of its entries
 pub leaf_trees_of_childless : (es base : List EntryView) (b : Bool) → is_leaf_tree (es, base) ≡ b → leaf_trees (opened es base []) ≡ cond b (es ∷ []) []
 leaf_trees_of_childless es base b is = ap (λ k. cond k (es ∷ []) [] ++ []) is ∙ append-nil (cond b (es ∷ []) [])
 

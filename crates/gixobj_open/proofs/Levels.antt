@@ -118,8 +118,8 @@ module _ (side : Level → List EntryView) where
   pub found_by : {name : List ℕ} {cs : List Child} {i : ℕ} {child : Child} → IsChild name cs i child → (path : Path)
       → part_at side name (parts cs) path ≡ at_side side child.open path
   found_by {name} {cs} {i} {child} here path =
-      let place : ℕ = position_or_len (called name) cs in
-      let chose = true_of_cond_some (nat_lt place (length cs)) place i here.found in
+      let child_position : ℕ = position_or_len (called name) cs in
+      let chose = true_of_cond_some (nat_lt child_position (length cs)) child_position i here.found in
       found_first name cs child path (ltb-true _ _ chose.0) ∙ ap (λ (c : Child). at_side side c.open path)
       (ap (λ k. get_or cs k child) chose.1 ∙ sym here.is)
 
@@ -165,8 +165,8 @@ module _ (side : Level → List EntryView) where
   pub set_becomes_by : {name : List ℕ} {cs new : List Child} {i : ℕ} {child next : Child} → IsChild name cs i child → IsChanged cs new i child next
       → BecomesBy side name (at_side side next.open) (parts cs) (parts new)
   set_becomes_by {name} {cs} {new} {i} {child} {next} here now =
-      let place : ℕ = position_or_len (called name) cs in
-      let chose = true_of_cond_some (nat_lt place (length cs)) place i here.found in
+      let child_position : ℕ = position_or_len (called name) cs in
+      let chose = true_of_cond_some (nat_lt child_position (length cs)) child_position i here.found in
       record {
         says = λ first path. ap (λ (l : List Child). part_at side first (parts l) path) now.changed
             ∙ subst (λ k. part_at side first (parts (set cs k next)) path ≡ cond (same_name name first) (at_side side next.open path)
@@ -383,8 +383,8 @@ has_tree_of_position es name (c ∷ cs) low above =
 pub child_has_tree : (es : List EntryView) {name : List ℕ} {cs : List Child} {i : ℕ} {child : Child} → IsChild name cs i child
     → AllByRecursion (λ p. has_tree p.0 es ≡ true) (parts cs) → has_tree name es ≡ true
 child_has_tree es {name} {cs} {i} here above =
-    let place : ℕ = position_or_len (called name) cs in
-    has_tree_of_position es name cs (ltb-true _ _ (true_of_cond_some (nat_lt place (length cs)) place i here.found).0) above
+    let child_position : ℕ = position_or_len (called name) cs in
+    has_tree_of_position es name cs (ltb-true _ _ (true_of_cond_some (nat_lt child_position (length cs)) child_position i here.found).0) above
 
 -- a level remains one with a directory more, if the directory has an entry of tree mode
 pub is_level_with_part : (name : List ℕ) (ds : Opened) (es : List EntryView) (ps : List Part) → has_tree name es ≡ true → IsLevel es ps

@@ -1,5 +1,5 @@
--- The open directories in a directory, in pieces: the one at a position, a changed one, and those of a walk; used for
--- the calls of `Children` and the descents of `Open`.
+-- The open directory at a position in pieces is the one at its index in the list, also once it is changed; used for the
+-- calls of `Children` and the descents of `Open`.
 use Rattle.std.proofs.Common.{◌≡◌, ◌≢◌, ◌∙◌, ◌<◌, ◌≤◌, ℕ, Bool, zero, suc, true, false, cond, List, [], ◌∷◌, ◌++◌, Some, None, get_or, length, length-append, set, refl, sym, ap, subst, arith}
 use Rattle.std.specs.List.{flat_map, position}
 use Rattle.std.specs.Vec.{with_item}
@@ -13,7 +13,7 @@ use Rattle.gixobj_sorted.proofs.Joined.{are_non_empty_set, non_empty_at}
 use Rattle.gixobj_tree.specs.KeyOrder.{key_of}
 use Rattle.gixobj_files.specs.Editing.{same_name}
 use Rattle.gixobj_sorted.specs.Pieces.{AreNonEmpty, IsPieced, flat_index, has_key, joined}
-use Rattle.gixobj_open.specs.Children.{IsAt, place_index, with_child}
+use Rattle.gixobj_open.specs.Children.{IsAt, index_of_child, with_child}
 use Rattle.gixobj_open.specs.Decreases.{length-below_append}
 use Rattle.gixobj_open.specs.Nested.{AreFilled, AreOrdered, IsPiecedLevel, Opened, below, called, child_key, child_list, length-under, part, parts, under}
 use Rattle.gixobj_open.specs.Children.{next_child, pairs_after_next}
@@ -33,11 +33,11 @@ items p = p.items
 -- the child at a position of the first piece, and of another
 module _ (children : Children) (piece index : ℕ) (d : Child) where
   pub child_in_first : piece ≡ 0 → IsAt children piece index
-      → get_or children.first.items index d ≡ get_or (child_list children) (place_index children piece index) d
+      → get_or children.first.items index d ≡ get_or (child_list children) (index_of_child children piece index) d
   child_in_first is within =
       let low : index < length children.first.items = subst (λ (k : ℕ). IsAt children k index) is within in
       sym (get_or_append_left children.first.items (flat_map items children.more.items) d index low)
-      ∙ ap (λ (k : ℕ). get_or (child_list children) (place_index children k index) d) (sym is)
+      ∙ ap (λ (k : ℕ). get_or (child_list children) (index_of_child children k index) d) (sym is)
 
   module _ (j : ℕ) (is : piece ≡ suc j) (within : IsAt children piece index) (q : Vec Child Global) (at : q ≡ get_or children.more.items j q) where
     piece_low : j < length children.more.items
@@ -46,12 +46,12 @@ module _ (children : Children) (piece index : ℕ) (d : Child) where
     low_in_piece : index < length (items (get_or children.more.items j q))
     low_in_piece = (subst (λ (k : ℕ). IsAt children k index) is within).1 q
 
-    pub child_in_more : get_or q.items index d ≡ get_or (child_list children) (place_index children piece index) d
+    pub child_in_more : get_or q.items index d ≡ get_or (child_list children) (index_of_child children piece index) d
     child_in_more =
         ap (λ (p : Vec Child Global). get_or p.items index d) at
         ∙ sym (get_or_flat_map items children.more.items j index d q piece_low low_in_piece)
         ∙ sym (get_or-append-add children.first.items (flat_map items children.more.items) _ d)
-        ∙ ap (λ (k : ℕ). get_or (child_list children) (place_index children k index) d) (sym is)
+        ∙ ap (λ (k : ℕ). get_or (child_list children) (index_of_child children k index) d) (sym is)
 
     abbrev changed_piece : Vec Child Global → Child → Children
     changed_piece p next = record children { more = with_item children.more j (with_item p index next) }
@@ -63,7 +63,7 @@ module _ (children : Children) (piece index : ℕ) (d : Child) where
 
 -- the list with a changed child
 pub child_list_with_child : (children : Children) (piece index : ℕ) (next : Child) → IsAt children piece index
-    → child_list (with_child children piece index next) ≡ set (child_list children) (place_index children piece index) next
+    → child_list (with_child children piece index next) ≡ set (child_list children) (index_of_child children piece index) next
 child_list_with_child children zero index next within = joined_set_first items children.first.items children.more.items index next within
 child_list_with_child children (suc j) index next within =
     let q : Vec Child Global = get_or children.more.items j children.first in
@@ -88,26 +88,26 @@ are_filled_with_child children (suc j) index next within filled =
 -- the child that a search found, and what is open in it afterwards
 pub record IsFound (name : List ℕ) (children : Children) (piece index : ℕ) (child : Child) : Type 0 where
   pub within : IsAt children piece index
-  pub found : Some (place_index children piece index) ≡ position (called name) (child_list children)
-  pub is : child ≡ get_or (child_list children) (place_index children piece index) child
+  pub found : Some (index_of_child children piece index) ≡ position (called name) (child_list children)
+  pub is : child ≡ get_or (child_list children) (index_of_child children piece index) child
 
 -- the pieces with what is open in a child replaced
 abbrev pub with_open : Children → ℕ → ℕ → Child → Opened → Children
 with_open children piece index child ds = with_child children piece index (record { name = child.name; «open» = ds })
 
 module _ {name : List ℕ} {children : Children} {piece index : ℕ} {child : Child} (found : IsFound name children piece index child) where
-  pub is_child : IsChild name (child_list children) (place_index children piece index) child
+  pub is_child : IsChild name (child_list children) (index_of_child children piece index) child
   is_child = record { found = found.found; is = found.is }
 
   pub is_changed : (ds : Opened)
-      → IsChanged (child_list children) (child_list (with_open children piece index child ds)) (place_index children piece index) child
+      → IsChanged (child_list children) (child_list (with_open children piece index child ds)) (index_of_child children piece index) child
       (record { name = child.name; «open» = ds })
   is_changed ds = record { named = refl; changed = child_list_with_child children piece index _ found.within }
 
   pub parts_with_open_same : (ds : Opened) → ds ≡ child.open → parts (child_list (with_open children piece index child ds)) ≡ parts (child_list children)
   parts_with_open_same ds same =
       ap parts (is_changed ds).changed
-      ∙ parts_set_same (child_list children) (place_index children piece index) child (record { name = child.name; «open» = ds }) found.is
+      ∙ parts_set_same (child_list children) (index_of_child children piece index) child (record { name = child.name; «open» = ds }) found.is
       (ap (λ (d : Opened). (bstring_bytes child.name, d)) same)
 
   pub is_pieced_level_with_open : {es : List EntryView} (ds : Opened) → IsPiecedLevel es children → IsPiecedLevel es (with_open children piece index child ds)
@@ -166,7 +166,7 @@ parts_joined_of first new more ps same others =
 module _ (children : Children) (name bytes : List ℕ) (first : List Child) (more : List (Vec Child Global)) (first_is : first ≡ children.first.items)
     (more_is : more ≡ children.more.items) (bytes_is : bytes ≡ name) where
   pub found_of_key : (piece index : ℕ) → position (has_key child_key (key_of bytes true)) (joined items first more)
-      ≡ Some (flat_index items first more piece index) → Some (place_index children piece index) ≡ position (called name) (child_list children)
+      ≡ Some (flat_index items first more piece index) → Some (index_of_child children piece index) ≡ position (called name) (child_list children)
   found_of_key piece index found =
       let here = rw (first_is, more_is, bytes_is) at found in
       sym (ap (λ (test : Child → Bool). position test (child_list children)) (called_is_has_key name) ∙ here)

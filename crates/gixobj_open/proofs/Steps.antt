@@ -1,4 +1,5 @@
--- The open directories after an edit of one level: for the functions of `open`, and for openings.
+-- An edit of one level changes the open directories at and below its name alone: for the functions of `open`, and for
+-- openings.
 use mathlib.Core.Bool.{true≢false}
 use Rattle.std.proofs.Common.{◌≡◌, ◌≢◌, ◌∙◌, ◌++◌, ℕ, true, false, cond, List, [], ◌∷◌, Option, Some, None, length, refl, sym, ap, arith}
 use Rattle.std.specs.Prelude.{◌==◌, IfNone}
@@ -164,11 +165,11 @@ module _ (old : Opened) (es : List EntryView) (cs : List Child) {base : List Ent
     pub path_based : (at : Path) → bases_of old (path ++ at) ≡ bases_of child.open (rest ++ at)
     path_based at = rw path_is (bases_of_cons old es (parts cs) view apart name (rest ++ at) ∙ found_by base_side here (rest ++ at))
 
-    pub place_down : dirs_of old path ≡ dirs_of child.open rest
-    place_down = rw path_is (dirs_of_cons old es (parts cs) view apart name rest ∙ in_part_of_child here rest)
+    pub dirs_down : dirs_of old path ≡ dirs_of child.open rest
+    dirs_down = rw path_is (dirs_of_cons old es (parts cs) view apart name rest ∙ in_part_of_child here rest)
 
-  pub place_unopened : None ≡ position (called name) cs → dirs_of old path ≡ None
-  place_unopened found_at = rw path_is (dirs_of_cons old es (parts cs) view apart name rest ∙ in_part_none name cs found_at rest)
+  pub unopened_without_child : None ≡ position (called name) cs → dirs_of old path ≡ None
+  unopened_without_child found_at = rw path_is (dirs_of_cons old es (parts cs) view apart name rest ∙ in_part_none name cs found_at rest)
 
   pub path_unopened : None ≡ position (called name) cs → (at : Path) → dirs_of old (path ++ at) ≡ None
   path_unopened found_at at = rw path_is (dirs_of_cons old es (parts cs) view apart name (rest ++ at) ∙ in_part_none name cs found_at (rest ++ at))

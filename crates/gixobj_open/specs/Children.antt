@@ -21,8 +21,8 @@ IsAt children piece index = IsPosition (λ (p : Vec Child Global). p.items) chil
     piece index
 
 -- the number of directories before this index of this piece
-abbrev pub place_index : Children → ℕ → ℕ → ℕ
-place_index children piece index = flat_index (λ (p : Vec Child Global). p.items) children.first.items
+abbrev pub index_of_child : Children → ℕ → ℕ → ℕ
+index_of_child children piece index = flat_index (λ (p : Vec Child Global). p.items) children.first.items
     children.more.items piece index
 
 -- the piece of the directory of a name has this number, and capacity for one directory more

@@ -46,7 +46,8 @@ most_le-below_pieces (v ∷ vs) = omega (
   length-below_append v.items (flat_map (λ (p : Vec Child Global). p.items) vs),
 )
 
--- the same of the children in the first piece, and in the others
+-- the maximum size of a child in the first piece, and in the others, is at most one more than the number of open
+-- directories below
 pub most_le-first : (children : Children)
     → most deep-Child children.first.items ≤ length (below (parts (child_list children))) + 1
 most_le-first children = omega (

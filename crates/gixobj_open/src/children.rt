@@ -6,7 +6,7 @@ ghost use Rattle.std.specs.Option.{option_copied};
 ghost use Rattle.bstr.specs.Owned.{bstring_bytes};
 ghost use Rattle.gixobj_files.specs.Editing.{same_name};
 ghost use Rattle.gixobj_sorted.specs.Pieces.{AreNonEmpty};
-ghost use Rattle.gixobj_open.specs.Children.{HasRoom, IsAt, LendsChild, place_index, remaining_list};
+ghost use Rattle.gixobj_open.specs.Children.{HasRoom, IsAt, LendsChild, index_of_child, remaining_list};
 ghost use Rattle.gixobj_open.specs.Nested.{AreFilled, AreOrdered, called, child_list, other_parts, parts, with_part};
 ghost use Rattle.gixobj_open.specs.Children.{next_child, pairs_after_next};
 ghost use Rattle.gixobj_open.specs.declared.open.Child.{Child};
@@ -70,7 +70,7 @@ impl Children {
         requires ordered { AreOrdered (parts (child_list self.now)) }
         requires filled { AreFilled self.now }
         ensures within { IfSome result (λ at. IsAt self.now at.piece at.index) }
-        ensures found { IfSome result (λ at. Some (place_index self.now at.piece at.index)
+        ensures found { IfSome result (λ at. Some (index_of_child self.now at.piece at.index)
             ≡ position (called (bstring_bytes name.now)) (child_list self.now)) }
         ensures none { IfNone result (None
             ≡ position (called (bstring_bytes name.now)) (child_list self.now)) }
@@ -83,7 +83,8 @@ impl Children {
     /// Returns the directory at a position.
     pub(crate) fn at(&self, at: Position) -> &Child
         requires { IsAt self.now at.piece at.index }
-        ensures { result.now ≡ get_or (child_list self.now) (place_index self.now at.piece at.index)
+        ensures { result.now ≡ get_or (child_list self.now)
+            (index_of_child self.now at.piece at.index)
             result.now }
     {
         if at.piece == 0 {
@@ -98,7 +99,7 @@ impl Children {
         requires { IsAt self.old at.piece at.index }
         ensures* writes_back { sem 𝓛 (LendsChild self.entry at.piece at.index result) }
         ensures value { result.now ≡ get_or (child_list self.old)
-            (place_index self.old at.piece at.index) result.now }
+            (index_of_child self.old at.piece at.index) result.now }
     {
         if at.piece == 0 {
             return &mut self.first[at.index];

@@ -32,7 +32,7 @@ pub struct Descent<'a> {
     /// The directories above.
     pub above: Open,
     /// The names before the directory that was reached.
-    pub passed: &'a [BString],
+    pub consumed: &'a [BString],
     /// The names after it.
     pub rest: &'a [BString],
 }
@@ -103,18 +103,19 @@ impl Open {
     ///
     /// This directory is the one that was reached then, until [`Open::ascend`] restores those above it.
     pub fn descend<'a>(&mut self, path: &'a [BString]) -> Descent<'a>
-        ensures path { path.now ≡ result.passed.now ++ result.rest.now }
+        ensures path { path.now ≡ result.consumed.now ++ result.rest.now }
         ensures rest { path.now ≢ [] → result.rest.now ≢ [] }
-        ensures descended { IsDescended (names_of result.passed.now) self.old self.new result.above }
+        ensures descended { IsDescended (names_of result.consumed.now) self.old self.new
+            result.above }
     {
         let alloc = *self.base.entries.allocator();
         let mut above = Open::new(alloc, Tree::empty(alloc));
         let upper = &path[..path.len().saturating_sub(MAX_RECURSIVE)];
         let depth = self.enter(&mut above, upper);
-        let (passed, rest) = path.split_at(depth);
+        let (consumed, rest) = path.split_at(depth);
         Descent {
             above,
-            passed,
+            consumed,
             rest,
         }
     }
@@ -137,16 +138,16 @@ impl Open {
 
     /// Restores the directories above this one, which is the one at the top then. Allocates nothing.
     pub fn ascend(&mut self, descent: Descent<'_>)
-        requires { AreAbove (reverse (names_of descent.passed.now)) descent.above }
+        requires { AreAbove (reverse (names_of descent.consumed.now)) descent.above }
         ensures { self.new
-            ≡ rebuilt (reverse (names_of descent.entry.passed.now)) descent.entry.above self.old }
+            ≡ rebuilt (reverse (names_of descent.entry.consumed.now)) descent.entry.above self.old }
     {
         let Descent {
             mut above,
-            passed,
+            consumed,
             rest: _,
         } = descent;
-        self.leave(&mut above, passed);
+        self.leave(&mut above, consumed);
     }
 
     /// Leaves the directories of a path one after the other, the last first.
@@ -170,10 +171,10 @@ impl Open {
         ensures unchanged { IsFalse result → (self.new ≡ self.old) × (other.new ≡ other.old) }
     {
         let _ = &self.entries;
-        let Some(place) = self.children.position(name) else {
+        let Some(child_position) = self.children.position(name) else {
             return false;
         };
-        let child = self.children.at_mut(place);
+        let child = self.children.at_mut(child_position);
         let _ = base_tree(&child.open);
         let _ = base_tree(other);
         mem::swap(&mut child.open, other);

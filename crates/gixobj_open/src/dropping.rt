@@ -3,7 +3,7 @@ ghost use Rattle.std.specs.Prelude.{◌≡◌, ◌≢◌, ◌++◌, ◌+◌, ◌
 ghost use Rattle.std.specs.List.{flat_map};
 ghost use Rattle.bstr.specs.Owned.{bstring_bytes};
 ghost use Rattle.gixobj_sorted.specs.Pieces.{AreNonEmpty};
-ghost use Rattle.gixobj_open.specs.Children.{IsAt, place_index};
+ghost use Rattle.gixobj_open.specs.Children.{IsAt, index_of_child};
 ghost use Rattle.gixobj_open.specs.LeafTrees.{inside_of, leaf_trees, waiting_trees};
 ghost use Rattle.gixobj_open.specs.Nested.{AreFilled, child_list, parts};
 ghost use Rattle.gixobj_open.specs.declared.open.Child.{Child};
@@ -156,7 +156,7 @@ impl Children {
         requires some { child_list self.now ≢ [] }
         requires filled { AreFilled self.now }
         ensures within { IsAt self.now result.piece result.index }
-        ensures first { place_index self.now result.piece result.index ≡ 0 }
+        ensures first { index_of_child self.now result.piece result.index ≡ 0 }
     {
         if self.first.is_empty() {
             return Position { piece: 1, index: 0 };

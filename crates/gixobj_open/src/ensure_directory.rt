@@ -78,7 +78,7 @@ impl Open {
         let Some((name, rest)) = path.split_first() else {
             return Ok(());
         };
-        let Some(place) = self.children.position(name) else {
+        let Some(child_position) = self.children.position(name) else {
             let inner = new_directories(alloc, rest, null)?;
             add_directory(
                 alloc,
@@ -90,7 +90,7 @@ impl Open {
             )?;
             return Ok(());
         };
-        let child = self.children.at_mut(place);
+        let child = self.children.at_mut(child_position);
         child.open.ensure_recursively(alloc, rest, null)
     }
 }

@@ -52,7 +52,7 @@ pub struct Open {
 
 /// The open directories in a directory, in the order of their entries.
 ///
-/// They are a list in pieces, so that an insertion moves few of them. No piece but the first is empty.
+/// They are a list in pieces, so that an insertion moves those of one piece alone. No piece but the first is empty.
 #[cycle(open)]
 #[derive(Drop)]
 pub struct Children {
@@ -129,10 +129,10 @@ impl Open {
     {
         let mut here = self;
         for name in path {
-            let Some(place) = here.children.position(name) else {
+            let Some(child_position) = here.children.position(name) else {
                 return None;
             };
-            let child = here.children.at(place);
+            let child = here.children.at(child_position);
             here = &child.open;
         }
         let _ = &here.entries;
@@ -185,7 +185,7 @@ impl Open {
             self.children.remove(name);
             return Ok(());
         }
-        let Some(place) = self.children.position(name) else {
+        let Some(child_position) = self.children.position(name) else {
             let inner = new_with_entry(alloc, rest, mode, id, null)?;
             add_directory(
                 alloc,
@@ -197,7 +197,7 @@ impl Open {
             )?;
             return Ok(());
         };
-        let child = self.children.at_mut(place);
+        let child = self.children.at_mut(child_position);
         child.open.insert_recursively(alloc, rest, mode, id, null)
     }
 
@@ -216,8 +216,8 @@ impl Open {
             self.children.remove(name);
             return;
         }
-        if let Some(place) = self.children.position(name) {
-            let child = self.children.at_mut(place);
+        if let Some(child_position) = self.children.position(name) {
+            let child = self.children.at_mut(child_position);
             child.open.take_recursively(rest);
         }
     }

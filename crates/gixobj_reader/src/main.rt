@@ -1,4 +1,4 @@
-//! The command `show [sha256]` of the program `gixobj` alone. It depends on few of the program's crates,
+//! The command `show [sha256]` of the program `gixobj` alone. It depends on only some of the program's crates,
 //! so it builds fast.
 #![tactic(auto)]
 
@@ -10,9 +10,9 @@ use std::process::ExitCode;
 fn main(rt: HostRuntime) -> ExitCode {
     let mut errors = rt.stderr();
     ExitCode::from(match process_arguments(&rt) {
-        Ok(words) => engine(
+        Ok(arguments) => engine(
             rt.alloc(),
-            words.as_slice(),
+            arguments.as_slice(),
             &mut rt.reader(),
             &mut rt.stdout(),
             &mut errors,

@@ -9,7 +9,7 @@ use gixobj_base::{decode, encode, hash};
 use std::alloc::Global;
 
 /// Splits at the first such byte. All and nothing if there is none.
-pub fn cut(content: &[u8], byte: u8) -> (&[u8], &[u8]) {
+pub fn split_at_first(content: &[u8], byte: u8) -> (&[u8], &[u8]) {
     split_at_byte(content, byte).unwrap_or((content, b""))
 }
 
@@ -54,13 +54,13 @@ fn of_hex(digits: &[u8]) -> u8 {
 
 /// Decodes a question: bytes, a space, and the kind of ids.
 pub fn bytes_and_kind(question: &[u8], answer: &mut Answer) -> (Vec<u8>, hash::Kind) {
-    let (bytes, token) = cut(question, b' ');
+    let (bytes, token) = split_at_first(question, b' ');
     (answer.input(bytes), kind_of_ids(token))
 }
 
 /// Decodes a question: the kind of ids, a space, and escaped bytes.
 pub fn kind_and_bytes(question: &[u8], answer: &mut Answer) -> (hash::Kind, Vec<u8>) {
-    let (token, bytes) = cut(question, b' ');
+    let (token, bytes) = split_at_first(question, b' ');
     (kind_of_ids(token), answer.unescape(bytes))
 }
 

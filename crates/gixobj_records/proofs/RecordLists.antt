@@ -1,4 +1,5 @@
--- Records decode uniquely, and a list of records grows by one.
+-- Bytes decode to at most one list of records, and a list grows by the record that follows it; the law
+-- `records_decode_uniquely`, `decode_records` and `Faults` use it.
 use Rattle.std.proofs.Common.{◌≡◌, ◌<◌, ℕ, List, [], ◌∷◌, ◌++◌, ◌∙◌, ap, append_assoc, arith, length, length-append, map, refl, subst, sym}
 use Rattle.std.proofs.lemmas.List.{map-append}
 use Rattle.gixobj_hash.proofs.Splits.{split_parts_unique}

@@ -1,4 +1,5 @@
--- What is written of a new encoding.
+-- A call writes the encoding of what its bytes decode to, and each of its failures is the error of the decoder or of
+-- the encoder; the proofs of `reencoded_tree`, `reencoded_commit` and `reencoded_tag` use it.
 use Rattle.std.proofs.Common.{◌≡◌, ◌∷◌, ℕ, List, [], ap, arith, inl, length, length-append, subst, sym, ⊎_elim, ◌∙◌}
 use Rattle.std.specs.List.{concat}
 use Rattle.std.specs.Prelude.{Some}

@@ -2,7 +2,7 @@
 use Rattle.std.proofs.Common.{◌≡◌, ℕ, List, [], ◌∷◌, ◌++◌, refl, ap, subst}
 use Rattle.std.specs.List.{AllZip}
 use Rattle.gixobj_fields.specs.Runs as runs
-use Rattle.gixobj_fields.specs.Runs.{Passes, complete, yields_end, yields_piece}
+use Rattle.gixobj_fields.specs.Runs.{BeginsWithPieces, complete, yields_end, yields_piece}
 use Rattle.gixobj_hash.specs.declared.hash.kind.Kind.{Kind}
 use Rattle.gixobj_line.proofs.LinesYielded.{yields_lines_of_commit}
 use Rattle.gixobj_line.proofs.EntireCommits.{end_state_of_message, lines_end_with_message, decodes_commit_of_gathered}
@@ -41,12 +41,12 @@ ends_in_message_of_message_line (token ∷ tokens) (line ∷ prefix) message (yi
 
 -- ---- a complete run is consumed to its end
 
-passes_of_yields_complete : (kind : Kind) (before : State) (input : List ℕ) (lines : List LineView)
+begins_with_pieces_of_yields_complete : (kind : Kind) (before : State) (input : List ℕ) (lines : List LineView)
     → runs.Yields (BeginsWithLine kind) before input lines complete → (following : State)
-    × Passes (BeginsWithLine kind) before input lines following []
-passes_of_yields_complete kind before input lines (yields_end _) = (before, (refl, refl))
-passes_of_yields_complete kind before input lines (yields_piece _ next _ after line others _ has yields_decoded) = let more =
-    passes_of_yields_complete kind next after others yields_decoded in
+    × BeginsWithPieces (BeginsWithLine kind) before input lines following []
+begins_with_pieces_of_yields_complete kind before input lines (yields_end _) = (before, (refl, refl))
+begins_with_pieces_of_yields_complete kind before input lines (yields_piece _ next _ after line others _ has yields_decoded) = let more =
+    begins_with_pieces_of_yields_complete kind next after others yields_decoded in
     (more.0, (next, after, has, more.1))
 
 -- ---- the law
@@ -69,9 +69,9 @@ pub commit_of_tokens_exists : (kind : Kind) (bytes : List ℕ) (tokens : List Co
 commit_of_tokens_exists kind bytes tokens yields (prefix, message, ends) =
     let it = lines_of_tokens_exist kind state.Tree bytes tokens yields in
     let last = last_line_of_message_token it.0 prefix message (subst (λ (all : List CommitTokenView). AllZip IsTokenOfLine it.0 all) ends it.2) in
-    let passes = passes_of_yields_complete kind state.Tree bytes it.0 it.1 in
-    let at_end = end_state_of_message kind state.Tree bytes it.0 last.0 message passes.0 [] passes.1 last.1 in
-    let is = decodes_commit_of_gathered kind bytes passes.0 [] (gathered empty_commit it.0) (it.0, passes.1, refl) at_end in
+    let begins_with = begins_with_pieces_of_yields_complete kind state.Tree bytes it.0 it.1 in
+    let at_end = end_state_of_message kind state.Tree bytes it.0 last.0 message begins_with.0 [] begins_with.1 last.1 in
+    let is = decodes_commit_of_gathered kind bytes begins_with.0 [] (gathered empty_commit it.0) (it.0, begins_with.1, refl) at_end in
     let other = yields_tokens_of_commit kind bytes (gathered empty_commit it.0) is in
     let same = token_run_unique kind state.Tree bytes other.0 tokens complete complete other.1 yields in
     (gathered empty_commit it.0, is, subst (λ (all : List CommitTokenView). AreTokensOfCommit (gathered empty_commit it.0) all) same.0 other.2)

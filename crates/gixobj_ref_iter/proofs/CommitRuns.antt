@@ -53,15 +53,15 @@ pub ends_search_at_first : (Is : CommitTokenView → Type 0) (reader at after : 
     → NextCommitToken at (Some item) after → item ≡ Ok token → EndsSearch Is reader (first_token (commit_token_view token))
 ends_search_at_first = readers.search_first commit_reader_state BeginsWithCommitToken (λ kind. NeedsAllocation) commit_token_view BorrowsValue remaining_len_le
 
-pub ends_search_at_optional_error : (Is : CommitTokenView → Type 0) (reader at after : CommitRefIter) (item : Result Token Error) (passed error : Error)
-    → passed ≡ error
-    → Searches Is reader at → NextCommitToken at (Some item) after → item ≡ Err error → EndsSearch Is reader (optional_error passed)
+pub ends_search_at_optional_error : (Is : CommitTokenView → Type 0) (reader at after : CommitRefIter) (item : Result Token Error) (consumed error : Error)
+    → consumed ≡ error
+    → Searches Is reader at → NextCommitToken at (Some item) after → item ≡ Err error → EndsSearch Is reader (optional_error consumed)
 ends_search_at_optional_error = readers.search_faults commit_reader_state BeginsWithCommitToken
     (λ kind. NeedsAllocation) commit_token_view BorrowsValue remaining_len_le
 
-pub ends_search_at_required_error : (Is : CommitTokenView → Type 0) (reader at after : CommitRefIter) (item : Result Token Error) (passed error : Error)
-    → passed ≡ error
-    → Searches Is reader at → NextCommitToken at (Some item) after → item ≡ Err error → EndsSearch Is reader (required_error passed)
+pub ends_search_at_required_error : (Is : CommitTokenView → Type 0) (reader at after : CommitRefIter) (item : Result Token Error) (consumed error : Error)
+    → consumed ≡ error
+    → Searches Is reader at → NextCommitToken at (Some item) after → item ≡ Err error → EndsSearch Is reader (required_error consumed)
 ends_search_at_required_error = readers.search_errors commit_reader_state BeginsWithCommitToken
     (λ kind. NeedsAllocation) commit_token_view BorrowsValue remaining_len_le
 

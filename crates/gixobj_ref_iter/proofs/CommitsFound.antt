@@ -5,7 +5,7 @@ use Rattle.std.proofs.lemmas.List.Elements.{All-append, All-cons, All-head, All-
 use Rattle.std.specs.List.{AllZip}
 use Rattle.std.specs.Prelude.{map, ⊤}
 use Rattle.gixobj_actor.specs.Actor.{ActorView, IsActorOf}
-use Rattle.gixobj_fields.proofs.Runs.{after_first, after_passed, one_here}
+use Rattle.gixobj_fields.proofs.Runs.{after_first, yields_after_pieces, one_here}
 use Rattle.gixobj_fields.specs.Iterators.{ReaderState}
 use Rattle.gixobj_fields.specs.Runs.{Ending, HasNone, broken, complete, yields_end, yields_piece}
 use Rattle.gixobj_hash.specs.Hash.{DecodesToId}
@@ -149,16 +149,16 @@ module _ (kind : Kind) (content : List ℕ) (commit : CommitLines) (reader : Com
 
   line_found : (Is : CommitTokenView → Type 0) (token : CommitTokenView) → EndsSearch Is reader (first_token token) → (line : LineView) × IsLineOf commit line
       × IsTokenOfLine line token
-  line_found Is token (before, following, here, rest, (passed, passes, none), has) =
+  line_found Is token (before, following, here, rest, (consumed, begins_with, none), has) =
       let has_token = BeginsWithCommitToken (commit_reader_state reader).kind in
       let one = commit_token_unique (commit_reader_state reader).kind in
       let some = no_commit_token_of_nil (commit_reader_state reader).kind in
-      let at = after_passed has_token one some (commit_reader_state reader).state before (commit_reader_state reader).bytes here passed run.0 complete
-      passes
+      let at = yields_after_pieces has_token one some (commit_reader_state reader).state before (commit_reader_state reader).bytes here consumed run.0 complete
+      begins_with
       yields_decoded in
       let first = after_first has_token one some before following here rest token at.others complete has at.yielded in
-      let joined = at.joined ∙ ap (λ (it : List CommitTokenView). passed ++ it) first.joined in
-      line_of_token_exists (IsLineOf commit) (lines_of_commit commit) passed token first.others (all_lines_of_commit commit)
+      let joined = at.joined ∙ ap (λ (it : List CommitTokenView). consumed ++ it) first.joined in
+      line_of_token_exists (IsLineOf commit) (lines_of_commit commit) consumed token first.others (all_lines_of_commit commit)
       (subst (λ (it : List CommitTokenView). AllZip IsTokenOfLine (lines_of_commit commit) it) joined run.2)
 
   lacks_none : (Is : CommitTokenView → Type 0) (ending : Ending) (leading : List LineView) (line : LineView) (more : List LineView)

@@ -10,7 +10,7 @@ use Rattle.gixobj_hash.specs.Hash.{DecodesToId}
 use Rattle.gixobj_hash.specs.declared.decode.Error.TheVariants.{Malformed, OutOfMemory}
 use Rattle.gixobj_hash.specs.declared.hash.kind.Kind.{Kind}
 use Rattle.gixobj_hash.specs.declared.hash.object_id.ObjectId.{ObjectId}
-use Rattle.gixobj_fields.proofs.Runs.{after_first, after_passed}
+use Rattle.gixobj_fields.proofs.Runs.{after_first, yields_after_pieces}
 use Rattle.gixobj_fields.specs.HeaderFormat.{Header}
 use Rattle.gixobj_fields.specs.Runs.{Ending, HasNone, complete, yields_end, yields_error, yields_piece}
 use Rattle.gixobj_line.specs.Commit.{CommitLines, DecodesToCommit, encoding_lines, lines_of_commit}
@@ -107,43 +107,43 @@ record Given (id : ObjectId) (tokens : List CommitTokenView) (after : ParentIds)
 module _ (it : ParentIds) (tokens : List CommitTokenView)
     (seen : YieldsCommitTokens (commit_reader_state (parents_reader it)).kind (commit_reader_state (parents_reader it)).state
     (commit_reader_state (parents_reader it)).bytes tokens complete) where
-  some_passed : (id : ObjectId) (after : ParentIds) → NextParent it (Some id) after → Given id tokens after
-  some_passed id after (before, input, token, (passed, passes, none), has, is, same_kind) =
+  some_consumed : (id : ObjectId) (after : ParentIds) → NextParent it (Some id) after → Given id tokens after
+  some_consumed id after (before, input, token, (consumed, begins_with, none), has, is, same_kind) =
       let kind = (commit_reader_state (parents_reader it)).kind in
-      let at = after_passed (BeginsWithCommitToken kind) (commit_token_unique kind) (no_commit_token_of_nil kind)
+      let at = yields_after_pieces (BeginsWithCommitToken kind) (commit_token_unique kind) (no_commit_token_of_nil kind)
       (commit_reader_state (parents_reader it)).state before
-      (commit_reader_state (parents_reader it)).bytes input passed tokens complete passes seen in
+      (commit_reader_state (parents_reader it)).bytes input consumed tokens complete begins_with seen in
       let one = after_first (BeginsWithCommitToken kind) (commit_token_unique kind) (no_commit_token_of_nil kind) before _ input _ token at.others complete has
       at.yielded in
       record {
         others = one.others;
         yielded = subst (λ (kind : Kind). YieldsCommitTokens kind (commit_reader_state (parents_reader after)).state
             (commit_reader_state (parents_reader after)).bytes one.others complete) (sym same_kind) one.yielded;
-        first = ap parents_of at.joined ∙ parents_of_others_append passed at.others none ∙ ap parents_of one.joined
+        first = ap parents_of at.joined ∙ parents_of_others_append consumed at.others none ∙ ap parents_of one.joined
             ∙ ap (λ (first : CommitTokenView). parent_id first ++ parents_of one.others) is;
       }
 
-  none_passed : (after : ParentIds) → NextParent it None after → parents_of tokens ≡ []
-  none_passed after (Malformed, (ending, (others, run, none)), ended, same_kind) =
+  none_consumed : (after : ParentIds) → NextParent it None after → parents_of tokens ≡ []
+  none_consumed after (Malformed, (ending, (others, run, none)), ended, same_kind) =
       let same = (token_run_unique _ _ _ others tokens ending complete run seen).0 in
       parents_of_others_nil tokens (subst (HasNone IsParentToken) same none)
-  none_passed after (OutOfMemory, (before, input, (passed, passes, none), rejected), ended, same_kind) =
+  none_consumed after (OutOfMemory, (before, input, (consumed, begins_with, none), rejected), ended, same_kind) =
       let kind = (commit_reader_state (parents_reader it)).kind in
-      let at = after_passed (BeginsWithCommitToken kind) (commit_token_unique kind) (no_commit_token_of_nil kind)
+      let at = yields_after_pieces (BeginsWithCommitToken kind) (commit_token_unique kind) (no_commit_token_of_nil kind)
       (commit_reader_state (parents_reader it)).state before
-      (commit_reader_state (parents_reader it)).bytes input passed tokens complete passes seen in
-      ap parents_of at.joined ∙ parents_of_others_append passed at.others none ∙ parents_of_others_nil at.others
+      (commit_reader_state (parents_reader it)).bytes input consumed tokens complete begins_with seen in
+      ap parents_of at.joined ∙ parents_of_others_append consumed at.others none ∙ parents_of_others_nil at.others
       (no_parent_tokens_after_actors _ before input at.others complete (is_after_actors_of_may_fold before input rejected.0) at.yielded)
 
 always_yields_parents : (ids : List ObjectId) (it : ParentIds) (tokens : List CommitTokenView)
     → YieldsCommitTokens (commit_reader_state (parents_reader it)).kind
     (commit_reader_state (parents_reader it)).state (commit_reader_state (parents_reader it)).bytes tokens complete
     → parents_of tokens ≡ ids → AlwaysYields NextParent (λ id. id) it ids
-always_yields_parents [] it tokens seen none = λ id after gives. let received = some_passed it tokens seen id after gives in cc (none, received.first)
+always_yields_parents [] it tokens seen none = λ id after gives. let received = some_consumed it tokens seen id after gives in cc (none, received.first)
 always_yields_parents (id ∷ ids) it tokens seen some = (
-  λ after gives. let none = none_passed it tokens seen after gives in cc (none, some),
+  λ after gives. let none = none_consumed it tokens seen after gives in cc (none, some),
   λ received after gives.
-      let next = some_passed it tokens seen received after gives in
+      let next = some_consumed it tokens seen received after gives in
       let same : received ∷ parents_of next.others ≡ id ∷ ids = sym next.first ∙ some in
       let first : received ≡ id = cc same in
       let more : parents_of next.others ≡ ids = cc same in

@@ -53,14 +53,15 @@ finds_none_is_malformed : (Is : TagTokenView → Type 0) (reader : TagRefIter) (
     → FindsNone tag_reader_state BeginsWithTagToken NoTokenAllocates Is reader error
     → (error ≡ Malformed) × ((ending : Ending) × YieldsNone tag_reader_state BeginsWithTagToken Is reader ending)
 finds_none_is_malformed Is reader Malformed none = (refl, none)
-finds_none_is_malformed Is reader OutOfMemory (before, input, passes, wants) = absurd wants
+finds_none_is_malformed Is reader OutOfMemory (before, input, begins_with, wants) = absurd wants
 
-pub yields_none_at_error : (Is : TagTokenView → Type 0) (reader at after : TagRefIter) (item : Result Token Error) (passed error : Error) → passed ≡ error
+pub yields_none_at_error : (Is : TagTokenView → Type 0) (reader at after : TagRefIter) (item : Result Token Error) (consumed error : Error) → consumed ≡ error
     → Searches Is reader at → NextTagToken at (Some item) after → item ≡ Err error
-    → (passed ≡ Malformed) × ((ending : Ending) × YieldsNone tag_reader_state BeginsWithTagToken Is reader ending)
-yields_none_at_error Is reader at after item passed error same searches gives err =
-    finds_none_is_malformed Is reader passed
-    (readers.search_errors tag_reader_state BeginsWithTagToken NoTokenAllocates tag_token_view Every remaining_len_le Is reader at after item passed error same
+    → (consumed ≡ Malformed) × ((ending : Ending) × YieldsNone tag_reader_state BeginsWithTagToken Is reader ending)
+yields_none_at_error Is reader at after item consumed error same searches gives err =
+    finds_none_is_malformed Is reader consumed
+    (readers.search_errors tag_reader_state BeginsWithTagToken NoTokenAllocates tag_token_view Every remaining_len_le Is reader at after item consumed error
+    same
     searches
     gives err)
 

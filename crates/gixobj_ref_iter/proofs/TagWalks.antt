@@ -1,6 +1,6 @@
 -- An iterator over tags that consumes all tokens.
 use Rattle.std.proofs.Common.{◌++◌, ◌∷◌, ◌∙◌, List, [], ℕ, Ok, Err, Some, None, ap, subst, sym}
-use Rattle.gixobj_fields.proofs.Runs.{passes_one, yields_passed}
+use Rattle.gixobj_fields.proofs.Runs.{begins_with_pieces_snoc, yields_of_begins_with_pieces}
 use Rattle.gixobj_fields.specs.Iterators.{ReaderState}
 use Rattle.gixobj_fields.specs.Runs.{HasNoPiece, broken, complete, yields_end, yields_error}
 use Rattle.gixobj_hash.specs.declared.decode.Error.{Error}
@@ -23,20 +23,22 @@ module _ (kind : Kind) (content : List ℕ) where
 
   pub goes_on : (tokens : List TagTokenView) (at after : TagRefIter) (token : Token) → HasConsumedTagTokens kind content tokens at
       → NextTagToken at (Some (Ok token)) after → HasConsumedTagTokens kind content (tokens ++ tag_token_view token ∷ []) after
-  goes_on tokens at after token (passed, same_kind) (has, kept, such) =
+  goes_on tokens at after token (consumed, same_kind) (has, kept, such) =
       let here = subst (λ (it : Kind). BeginsWithTagToken it (tag_reader_state at).state (tag_reader_state at).bytes (tag_token_view token)
       (tag_reader_state after).state (tag_reader_state after).bytes) same_kind has in (
-        passes_one (BeginsWithTagToken kind) state.Target (tag_reader_state at).state (tag_reader_state after).state content (tag_reader_state at).bytes
-            (tag_reader_state after).bytes tokens (tag_token_view token) passed here,
+        begins_with_pieces_snoc (BeginsWithTagToken kind) state.Target (tag_reader_state at).state (tag_reader_state after).state content
+            (tag_reader_state at).bytes
+            (tag_reader_state after).bytes tokens (tag_token_view token) consumed here,
         kept ∙ same_kind,
       )
 
   pub ends : (tokens : List TagTokenView) (at after : TagRefIter) → HasConsumedTagTokens kind content tokens at → NextTagToken at None after
       → YieldsTagTokens kind state.Target content tokens complete
-  ends tokens at after (passed, same_kind) gives =
+  ends tokens at after (consumed, same_kind) gives =
       let end : YieldsTagTokens kind (tag_reader_state at).state (tag_reader_state at).bytes [] complete =
       rw gives.0 (yields_end (tag_reader_state at).state) in
-      yields_passed (BeginsWithTagToken kind) state.Target (tag_reader_state at).state content (tag_reader_state at).bytes tokens complete passed end
+      yields_of_begins_with_pieces (BeginsWithTagToken kind) state.Target (tag_reader_state at).state content
+      (tag_reader_state at).bytes tokens complete consumed end
 
   malformed_only : (at after : TagRefIter) (error : Error) → NextTagToken at (Some (Err error)) after → NextTagToken at (Some (Err Malformed)) after
   malformed_only at after Malformed gives = gives
@@ -44,9 +46,10 @@ module _ (kind : Kind) (content : List ℕ) where
 
   pub stops : (tokens : List TagTokenView) (at after : TagRefIter) (error : Error) → HasConsumedTagTokens kind content tokens at
       → NextTagToken at (Some (Err error)) after → YieldsTagTokens kind state.Target content tokens broken
-  stops tokens at after error (passed, same_kind) gives =
+  stops tokens at after error (consumed, same_kind) gives =
       let rejected = malformed_only at after error gives in
       let none = subst (λ (it : Kind). HasNoPiece (BeginsWithTagToken it) (tag_reader_state at).state (tag_reader_state at).bytes) same_kind rejected.1 in
       let stop : YieldsTagTokens kind (tag_reader_state at).state (tag_reader_state at).bytes [] broken =
       yields_error (tag_reader_state at).state (tag_reader_state at).bytes rejected.0 none in
-      yields_passed (BeginsWithTagToken kind) state.Target (tag_reader_state at).state content (tag_reader_state at).bytes tokens broken passed stop
+      yields_of_begins_with_pieces (BeginsWithTagToken kind) state.Target (tag_reader_state at).state content
+      (tag_reader_state at).bytes tokens broken consumed stop

@@ -2,7 +2,7 @@
 use Rattle.std.proofs.Common.{◌≡◌, ◌≢◌, ℕ, List, [], ◌∷◌, ◌++◌, Option, Some, None, Result, Ok, Err, append_assoc, ap, refl, subst, sym, ◌∙◌}
 use Rattle.std.proofs.lemmas.List.{append-nil}
 use Rattle.gixobj_actor.specs.declared.actor.SignatureRef.{SignatureRef}
-use Rattle.gixobj_fields.proofs.Runs.{after_first, after_passed, one_here}
+use Rattle.gixobj_fields.proofs.Runs.{after_first, yields_after_pieces, one_here}
 use Rattle.gixobj_fields.specs.Iterators.{ReaderState}
 use Rattle.gixobj_fields.specs.Runs.{Ending, HasNone, complete, yields_end, yields_piece}
 use Rattle.gixobj_hash.specs.Hash.{DecodesToId}
@@ -52,9 +52,9 @@ token_of_tagger_is_tagger None = tt
 token_of_tagger_is_tagger (Some actor) = tt
 
 -- of all tokens of a tag, only the tagger's is a tagger token
-tagger_token_unique : (passed more : List TagTokenView) (token tagger : TagTokenView) (id : ObjectId) (of : object.Kind) (name message : List ℕ)
+tagger_token_unique : (consumed more : List TagTokenView) (token tagger : TagTokenView) (id : ObjectId) (of : object.Kind) (name message : List ℕ)
     (signature : Option (List ℕ)) → IsTaggerToken token
-    → passed ++ token ∷ more ≡ target_token id ∷ kind_token of ∷ name_token name ∷ tagger ∷ body_token message signature ∷ [] → token ≡ tagger
+    → consumed ++ token ∷ more ≡ target_token id ∷ kind_token of ∷ name_token name ∷ tagger ∷ body_token message signature ∷ [] → token ≡ tagger
 tagger_token_unique [] more token tagger id of name message signature is same = let e : token ≡ target_token id =
     cc same in absurd (subst IsTaggerToken e is)
 tagger_token_unique (a ∷ []) more token tagger id of name message signature is same = let e : token ≡ kind_token of =
@@ -65,7 +65,7 @@ tagger_token_unique (a ∷ b ∷ c ∷ []) more token tagger id of name message 
 tagger_token_unique (a ∷ b ∷ c ∷ d ∷ []) more token tagger id of name message signature is same = let e : token ≡ body_token message signature =
     cc same in absurd (subst IsTaggerToken e is)
 tagger_token_unique (a ∷ b ∷ c ∷ d ∷ e ∷ []) more token tagger id of name message signature is same = absurd (cc same)
-tagger_token_unique (a ∷ b ∷ c ∷ d ∷ e ∷ f ∷ passed) more token tagger id of name message signature is same = absurd (cc same)
+tagger_token_unique (a ∷ b ∷ c ∷ d ∷ e ∷ f ∷ consumed) more token tagger id of name message signature is same = absurd (cc same)
 
 -- ---- without a tagger token
 
@@ -146,19 +146,19 @@ module _ (kind : Kind) (content : List ℕ) (tag : TagLines) (reader : TagRefIte
   its_target result (answer, after, gives, is_answer) = let it = its_answer answer after gives in (it.0, is_answer ∙ it.1, it.2)
 
   pub its_tagger : (tagger : Option SignatureRef) → FindsTagger reader tagger → IsTokenOfTagger tag.tagger (token_of_tagger tagger)
-  its_tagger tagger (before, following, here, rest, (passed, passes, none), has) =
+  its_tagger tagger (before, following, here, rest, (consumed, begins_with, none), has) =
       let kind' = (tag_reader_state reader).kind in
-      let at = after_passed (BeginsWithTagToken kind') (tag_token_unique kind') (no_tag_token_of_nil kind') (tag_reader_state reader).state before
-      (tag_reader_state reader).bytes here passed run.0 complete passes yields_decoded in
+      let at = yields_after_pieces (BeginsWithTagToken kind') (tag_token_unique kind') (no_tag_token_of_nil kind') (tag_reader_state reader).state before
+      (tag_reader_state reader).bytes here consumed run.0 complete begins_with yields_decoded in
       let first = after_first (BeginsWithTagToken kind') (tag_token_unique kind') (no_tag_token_of_nil kind') before following here rest
       (token_of_tagger tagger) at.others complete has at.yielded in
       let all = run.2.2 in
-      let joined : passed ++ token_of_tagger tagger ∷ (first.others ++ run.2.0) ≡ (passed ++ token_of_tagger tagger ∷ first.others) ++ run.2.0 =
-      sym (append_assoc passed (token_of_tagger tagger ∷ first.others) run.2.0) in
-      let entire = joined ∙ ap (λ (it : List TagTokenView). (passed ++ it) ++ run.2.0) (sym first.joined)
+      let joined : consumed ++ token_of_tagger tagger ∷ (first.others ++ run.2.0) ≡ (consumed ++ token_of_tagger tagger ∷ first.others) ++ run.2.0 =
+      sym (append_assoc consumed (token_of_tagger tagger ∷ first.others) run.2.0) in
+      let entire = joined ∙ ap (λ (it : List TagTokenView). (consumed ++ it) ++ run.2.0) (sym first.joined)
       ∙ ap (λ (it : List TagTokenView). it ++ run.2.0)
       (sym at.joined) ∙ all.joined in
-      let same = tagger_token_unique passed (first.others ++ run.2.0) (token_of_tagger tagger) all.tagger all.id tag.target_kind tag.name tag.message
+      let same = tagger_token_unique consumed (first.others ++ run.2.0) (token_of_tagger tagger) all.tagger all.id tag.target_kind tag.name tag.message
       tag.signature
       (token_of_tagger_is_tagger tagger) entire in
       subst (IsTokenOfTagger tag.tagger) (sym same) all.yielded

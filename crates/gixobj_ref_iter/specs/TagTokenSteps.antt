@@ -60,7 +60,7 @@ YieldsTagTokens kind before input tokens ending = runs.Yields (BeginsWithTagToke
 -- the iterator began before the target of these bytes, and has consumed these tokens
 abbrev pub HasConsumedTagTokens : Kind → List ℕ → List TagTokenView → TagRefIter → Type 0
 HasConsumedTagTokens kind content tokens reader =
-    runs.Passes (BeginsWithTagToken kind) state.Target content tokens (tag_reader_state reader).state
+    runs.BeginsWithPieces (BeginsWithTagToken kind) state.Target content tokens (tag_reader_state reader).state
     (tag_reader_state reader).bytes × ((tag_reader_state reader).kind ≡ kind)
 
 -- the input is the concatenation of an encoding for each token

@@ -21,7 +21,7 @@ DecodesToCommitTokens kind input tokens = (encodings : List (List ℕ)) × (inpu
 -- the iterator began before the tree of these bytes, and has consumed these tokens
 abbrev pub HasConsumedCommitTokens : Kind → List ℕ → List CommitTokenView → CommitRefIter → Type 0
 HasConsumedCommitTokens kind content tokens reader =
-    runs.Passes (BeginsWithCommitToken kind) state.Tree content tokens (commit_reader_state reader).state
+    runs.BeginsWithPieces (BeginsWithCommitToken kind) state.Tree content tokens (commit_reader_state reader).state
     (commit_reader_state reader).bytes × ((commit_reader_state reader).kind ≡ kind)
 
 -- the end of a search for a token: the first token, the ending of a run without one, or an error. The error is that of

@@ -11,7 +11,7 @@ use gixobj_codec::commit::ref_iter::Token;
 use gixobj_codec::{Commit, CommitRef, CommitRefIter};
 use gixobj_recorded::actors::{add_time, write_actor, write_actor_or_fault, write_owned_actor};
 use gixobj_recorded::answer::{Answer, Form, Prefix};
-use gixobj_recorded::fields::{cut, fault, kind_and_bytes};
+use gixobj_recorded::fields::{fault, kind_and_bytes, split_at_first};
 use gixobj_recorded::objects::{write_encoding, write_sizes};
 
 /// Answers with a decoded commit, its encoding and its owned form.
@@ -261,7 +261,7 @@ pub(crate) fn beginning_answer(question: &[u8], answer: &mut Answer) {
 
 /// Answers with the headers of a name in a commit, borrowed and owned.
 pub(crate) fn search_answer(question: &[u8], answer: &mut Answer) {
-    let (name, content) = cut(question, b' ');
+    let (name, content) = split_at_first(question, b' ');
     let name = str::from_utf8(name).unwrap_or("");
     let (hash_kind, bytes) = kind_and_bytes(content, answer);
     match CommitRef::from_bytes(answer.alloc, bytes.as_slice(), hash_kind) {
@@ -309,10 +309,10 @@ fn write_owned_found(commit: &Commit, name: &str, answer: &mut Answer) {
 }
 
 /// The columns of the first value and its position, or of missing ones.
-fn write_first(value: Option<BStr<'_>>, place: Option<usize>, answer: &mut Answer) {
+fn write_first(value: Option<BStr<'_>>, position: Option<usize>, answer: &mut Answer) {
     write_value("found", value, answer);
-    match place {
-        Some(place) => answer.write_shown("place", place),
+    match position {
+        Some(position) => answer.write_shown("place", position),
         None => answer.write_pair("place", "-"),
     }
 }

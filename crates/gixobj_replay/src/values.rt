@@ -9,7 +9,7 @@ use gixobj_base::parse::{any_header_field, header_field, hex_hash, signature};
 use gixobj_base::tree::{EntryKind, EntryMode, name_order};
 use gixobj_base::{compute_hash, encode};
 use gixobj_recorded::answer::Answer;
-use gixobj_recorded::fields::{cut, fault, kind_of_ids};
+use gixobj_recorded::fields::{fault, kind_of_ids, split_at_first};
 
 /// Answers with the mode that `EntryMode::from_bytes` decodes.
 pub(crate) fn mode_answer(question: &[u8], answer: &mut Answer) {
@@ -62,7 +62,7 @@ pub(crate) fn add_mode(mode: EntryMode, answer: &mut Answer) {
 
 /// Answers with a mode. The question is `text` and bytes, `number` and octal digits, or `kind` and a kind.
 pub(crate) fn entry_mode_answer(question: &[u8], answer: &mut Answer) {
-    let (form, what) = cut(question, b' ');
+    let (form, what) = split_at_first(question, b' ');
     match form {
         b"text" => write_bytes(what, answer),
         b"number" => match EntryMode::try_from(octal(what)) {
@@ -121,9 +121,9 @@ fn write_mode_of(mode: EntryMode, answer: &mut Answer) {
 
 /// Answers with the order that `name_order` returns for two names and their kinds.
 pub(crate) fn order_answer(question: &[u8], answer: &mut Answer) {
-    let (left, rest) = cut(question, b'\t');
-    let (left_kind, rest) = cut(rest, b'\t');
-    let (right, right_kind) = cut(rest, b'\t');
+    let (left, rest) = split_at_first(question, b'\t');
+    let (left_kind, rest) = split_at_first(rest, b'\t');
+    let (right, right_kind) = split_at_first(rest, b'\t');
     let left = answer.input(left);
     let right = answer.input(right);
     let order = name_order(
@@ -137,7 +137,7 @@ pub(crate) fn order_answer(question: &[u8], answer: &mut Answer) {
 
 /// Answers with an id. The question is a call and its argument.
 pub(crate) fn id_answer(question: &[u8], answer: &mut Answer) {
-    let (call, what) = cut(question, b' ');
+    let (call, what) = split_at_first(question, b' ');
     let what = answer.unescape(what);
     let what = what.as_slice();
     let id = match call {
@@ -195,7 +195,7 @@ fn write_written_twice(id: ObjectId, answer: &mut Answer) {
 
 /// The columns of a verification, by the owned and the borrowed id.
 fn write_verified(ids: &[u8], answer: &mut Answer) {
-    let (actual, expected) = cut(ids, b' ');
+    let (actual, expected) = split_at_first(ids, b' ');
     match (ObjectId::from_hex(actual), ObjectId::from_hex(expected)) {
         (Some(actual), Some(expected)) => write_outcome(actual, expected.as_oid(), answer),
         _ => answer.write("no ids"),
@@ -218,8 +218,8 @@ fn write_outcome(actual: ObjectId, expected: oid<'_>, answer: &mut Answer) {
 /// Answers with the id of an object and its kind. The question is the kind of ids, the kind of objects and
 /// the content.
 pub(crate) fn object_id_answer(question: &[u8], answer: &mut Answer) {
-    let (ids, object) = cut(question, b' ');
-    let (token, content) = cut(object, b' ');
+    let (ids, object) = split_at_first(question, b' ');
+    let (token, content) = split_at_first(object, b' ');
     let content = answer.unescape(content);
     match Kind::from_bytes(answer.alloc, token) {
         Ok(kind) => {
@@ -278,7 +278,7 @@ fn write_error(error: &LooseHeaderDecodeError, answer: &mut Answer) {
 /// Answers with a header. The question is `write`, a kind and a size; or `part` or `says` and a malformed
 /// header. The answer is then the part in the error, or its message.
 pub(crate) fn header_bytes_answer(question: &[u8], answer: &mut Answer) {
-    let (call, what) = cut(question, b' ');
+    let (call, what) = split_at_first(question, b' ');
     let what = answer.unescape(what);
     if call == b"write".as_slice() {
         return write_written(what.as_slice(), answer);
@@ -305,7 +305,7 @@ fn write_part(error: &LooseHeaderDecodeError, answer: &mut Answer) {
 
 /// Adds the header of a kind and a size: bytes, length, whether it allocated, and its decoded form.
 fn write_written(what: &[u8], answer: &mut Answer) {
-    let (token, digits) = cut(what, b' ');
+    let (token, digits) = split_at_first(what, b' ');
     let size = u64::from_str_radix(str::from_utf8(digits).unwrap_or(""), 10).unwrap_or(0);
     let Ok(kind) = Kind::from_bytes(answer.alloc, token) else {
         return answer.write("no kind");
@@ -322,7 +322,7 @@ fn write_written(what: &[u8], answer: &mut Answer) {
 
 /// Answers with the field of a line. The question is a call and its input.
 pub(crate) fn header_field_answer(question: &[u8], answer: &mut Answer) {
-    let (call, what) = cut(question, b' ');
+    let (call, what) = split_at_first(question, b' ');
     let what = answer.unescape(what);
     let input = what.as_slice();
     match call {
@@ -369,7 +369,7 @@ fn name_and_time(line: &[u8]) -> Option<(&[u8], &[u8])> {
 /// `time`, seconds and offset: the answer is then the encoding, as returned and as kept in the buffer. For an
 /// invalid time the answer is `-`.
 pub(crate) fn time_answer(question: &[u8], answer: &mut Answer) {
-    let (form, what) = cut(question, b' ');
+    let (form, what) = split_at_first(question, b' ');
     if form == b"text".as_slice() {
         let bytes = answer.unescape(what);
         match parse_header(bytes.as_slice()) {
@@ -391,7 +391,7 @@ pub(crate) fn time_answer(question: &[u8], answer: &mut Answer) {
 
 /// The time of these seconds and this offset.
 fn time_of(what: &[u8]) -> Option<Time> {
-    let (seconds, offset) = cut(what, b' ');
+    let (seconds, offset) = split_at_first(what, b' ');
     let seconds = i64::from_str_radix(str::from_utf8(seconds).ok()?, 10).ok()?;
     let offset = i32::from_str_radix(str::from_utf8(offset).ok()?, 10).ok()?;
     Time::new(seconds, offset)

@@ -7,7 +7,7 @@ use gixobj_codec::commit::MessageRef;
 use gixobj_codec::commit::message::BodyRef;
 use gixobj_codec::commit::message::body::{Filtered, TrailerRef, Trailers};
 use gixobj_recorded::answer::{Answer, Form};
-use gixobj_recorded::fields::cut;
+use gixobj_recorded::fields::split_at_first;
 use std::borrow::CowSlice;
 
 /// A commit without its message.
@@ -108,7 +108,7 @@ fn write_trailer(token: &str, trailer: Result<TrailerRef<'_>, OutOfMemory>, answ
 
 /// Answers with a message or a body in escaped bytes. The question is a call and its input.
 pub(crate) fn named_answer(question: &[u8], answer: &mut Answer) {
-    let (call, what) = cut(question, b' ');
+    let (call, what) = split_at_first(question, b' ');
     let input = answer.unescape(what);
     let input = input.as_slice();
     let body = BodyRef::from_bytes(input);

@@ -9,13 +9,13 @@ use gixobj_editor::{Command, Edit, EditReply, Reply, run};
 use gixobj_keep::Memory;
 use gixobj_keep::find::existing_object;
 use gixobj_recorded::answer::Answer;
-use gixobj_recorded::fields::{bytes_of, cut, kind_of_ids};
+use gixobj_recorded::fields::{bytes_of, kind_of_ids, split_at_first};
 use gixobj_script::{ScriptError, edit, parse_script, report_lines};
 
 /// Answers with the output of a script on the empty root, over an empty store. The question is the kind of
 /// ids and the script.
 pub(crate) fn script_answer(question: &[u8], answer: &mut Answer) {
-    let (token, script) = cut(question, b'\t');
+    let (token, script) = split_at_first(question, b'\t');
     let script = answer.unescape(script);
     match edit(answer.alloc, script.as_slice(), kind_of_ids(token)) {
         Ok(seen) => answer.push_escaped(seen.as_slice()),
@@ -26,7 +26,7 @@ pub(crate) fn script_answer(question: &[u8], answer: &mut Answer) {
 /// Answers with the commands of a script, one in a line, with the names of their paths in angle brackets. The
 /// question is the kind of ids and the script.
 pub(crate) fn command_answer(question: &[u8], answer: &mut Answer) {
-    let (token, script) = cut(question, b'\t');
+    let (token, script) = split_at_first(question, b'\t');
     let script = answer.unescape(script);
     match parse_script(answer.alloc, script.as_slice(), kind_of_ids(token)) {
         Ok(commands) => push_commands(&commands, answer),
@@ -97,8 +97,8 @@ fn push_names(names: &[BString], answer: &mut Answer) {
 /// Answers with the output of a script on the empty root over a store of these objects, and the cause of each
 /// failed lookup. The question is the kind of ids, the objects, and the script.
 pub(crate) fn stored_script_answer(question: &[u8], answer: &mut Answer) {
-    let (token, rest) = cut(question, b'\t');
-    let (objects, script) = cut(rest, b'\t');
+    let (token, rest) = split_at_first(question, b'\t');
+    let (objects, script) = split_at_first(rest, b'\t');
     let hash_kind = kind_of_ids(token);
     let script = answer.unescape(script);
     let Ok(commands) = parse_script(answer.alloc, script.as_slice(), hash_kind) else {

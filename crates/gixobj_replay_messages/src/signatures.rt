@@ -7,7 +7,7 @@ use gixobj_base::parse::split_at_byte;
 use gixobj_base::{OutOfMemory, WriteTo, hash};
 use gixobj_codec::{CommitRef, CommitRefIter, TagRef, TagRefIter};
 use gixobj_recorded::answer::{Answer, Form};
-use gixobj_recorded::fields::{cut, fault, kind_of_ids};
+use gixobj_recorded::fields::{fault, kind_of_ids, split_at_first};
 use gixobj_recorded::objects::encoded;
 use gixobj_signature::signature::verify::{
     self, Outcome, TrustLevel, parse_gpg_output, parse_ssh_output,
@@ -21,7 +21,7 @@ const OUTPUT: &[u8] = b"told";
 
 /// Answers with the outcome of a report of OpenPGP or of X.509.
 pub(crate) fn gpg_report_answer(question: &[u8], answer: &mut Answer) {
-    let (format, raw) = cut(question, b' ');
+    let (format, raw) = split_at_first(question, b' ');
     let format = format_of(format);
     let raw = BString::new(answer.input(raw));
     let output = answer.copied(OUTPUT);
@@ -54,8 +54,8 @@ fn write_validity(outcome: &Outcome, is_entire: bool, answer: &mut Answer) {
 
 /// Answers with the outcome of a report of SSH.
 pub(crate) fn ssh_report_answer(question: &[u8], answer: &mut Answer) {
-    let (trust, rest) = cut(question, b' ');
-    let (signer, output) = cut(rest, b' ');
+    let (trust, rest) = split_at_first(question, b' ');
+    let (signer, output) = split_at_first(rest, b' ');
     let trust = level_of(trust);
     let wanted = bytes_if_some(signer, answer).map(BString::new);
     let signer = bytes_if_some(signer, answer).map(BString::new);
@@ -131,15 +131,15 @@ pub(crate) fn format_of(token: &[u8]) -> Format {
 pub(crate) fn marker_answer(question: &[u8], answer: &mut Answer) {
     let content = answer.input(question);
     match find(content.as_slice()) {
-        Some((place, format)) => answer.push_shown(format_args!("{place} {format:?}")),
+        Some((position, format)) => answer.push_shown(format_args!("{position} {format:?}")),
         None => answer.write("none"),
     }
 }
 
 /// Answers with the signature and the signed data of an object, that it has none, or the error.
 pub(crate) fn signed_data_answer(question: &[u8], answer: &mut Answer) {
-    let (token, rest) = cut(question, b' ');
-    let (content, kind) = cut(rest, b' ');
+    let (token, rest) = split_at_first(question, b' ');
+    let (content, kind) = split_at_first(rest, b' ');
     let bytes = answer.input(content);
     match token {
         b"tag" => write_tag(bytes.as_slice(), answer),
@@ -197,7 +197,7 @@ pub(crate) fn program_answer(question: &[u8], answer: &mut Answer) {
         alloc: answer.alloc,
         rest: question,
     };
-    let (call, head) = cut(row.next(), b' ');
+    let (call, head) = split_at_first(row.next(), b' ');
     let input = answer.unescape(row.next());
     let task = task_of(head, &mut row, answer);
     match call {
@@ -211,11 +211,11 @@ pub(crate) fn program_answer(question: &[u8], answer: &mut Answer) {
 
 /// The call in the rest of the first column and in the next five columns.
 fn task_of<'a>(head: &'a [u8], row: &mut Row<'a>, answer: &mut Answer) -> Task<'a> {
-    let (object, rest) = cut(head, b' ');
-    let (ids, rest) = cut(rest, b' ');
-    let (format, minimum) = cut(rest, b' ');
+    let (object, rest) = split_at_first(head, b' ');
+    let (ids, rest) = split_at_first(rest, b' ');
+    let (format, minimum) = split_at_first(rest, b' ');
     let environment = environment_of(row.next(), answer);
-    let (program, arguments) = cut(row.next(), b' ');
+    let (program, arguments) = split_at_first(row.next(), b' ');
     Task {
         object,
         ids: kind_of_ids(ids),
@@ -408,7 +408,7 @@ struct Row<'a> {
 impl<'a> Row<'a> {
     /// The next column.
     fn next(&mut self) -> &'a [u8] {
-        let (column, rest) = cut(self.rest, b'\t');
+        let (column, rest) = split_at_first(self.rest, b'\t');
         self.rest = rest;
         column
     }

@@ -13,7 +13,7 @@ use gixobj_codec::{TagRef, TagRefIter};
 use gixobj_recorded::actors::{add_actor, write_actor, write_owned_actor};
 use gixobj_recorded::answer::{Answer, Form, Prefix};
 use gixobj_recorded::fields::{
-    bytes_and_kind, cut, fault, kind_and_bytes, name_fault, outcome_keyword, yes_or_no,
+    bytes_and_kind, fault, kind_and_bytes, name_fault, outcome_keyword, split_at_first, yes_or_no,
 };
 use gixobj_recorded::objects::{encoded, write_encoding, write_sizes};
 
@@ -319,9 +319,9 @@ const BARE: &[u8] = b"object 4b825dc642cb6eb9a060e54bf8d69288fbee4904\ntype tree
 /// Answers with the encoding of the bare tag with these parts: name, tagger, message and signature. They are
 /// separated by `|`, and `-` is none.
 pub(crate) fn tag_parts_answer(question: &[u8], answer: &mut Answer) {
-    let (name, rest) = cut(question, b'|');
-    let (tagger, rest) = cut(rest, b'|');
-    let (message, signature) = cut(rest, b'|');
+    let (name, rest) = split_at_first(question, b'|');
+    let (tagger, rest) = split_at_first(rest, b'|');
+    let (message, signature) = split_at_first(rest, b'|');
     let name = answer.unescape(name);
     let tagger = answer.unescape(tagger);
     let message = answer.unescape(message);

@@ -1,6 +1,6 @@
-mod FieldPlaces
+mod FieldPositions
 mod FirstBytes
-mod LastPlaces
+mod LastPositions
 mod Rows
 mod Fields
 mod StatusesRead

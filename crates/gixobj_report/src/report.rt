@@ -134,11 +134,11 @@ fn is_good(status: Status) -> bool
 fn is_at_least(trust: TrustLevel, minimum: TrustLevel) -> bool
     ensures { result ≡ is_trusted minimum trust }
 {
-    place_of(minimum) <= place_of(trust)
+    rank_of(minimum) <= rank_of(trust)
 }
 
 /// Returns the rank of a trust level, 0 for the lowest.
-fn place_of(trust: TrustLevel) -> u8
+fn rank_of(trust: TrustLevel) -> u8
     ensures { result ≡ level trust }
 {
     match trust {

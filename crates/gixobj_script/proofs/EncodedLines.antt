@@ -22,7 +22,7 @@ use Rattle.gixobj_mode.specs.declared.entry_kind.EntryKind.TheVariants.{Blob, Bl
 
 -- a path other than `.` has names
 pub path_names_unless_dot_exist : (path : List ℕ) → path ≢ root_path → (names : List (List ℕ)) × ArePathNames path names
-path_names_unless_dot_exist path other = (let (names, cut) = split_at_each_exists slash path in (names, inr (other, cut)))
+path_names_unless_dot_exist path other = (let (names, split) = split_at_each_exists slash path in (names, inr (other, split)))
 
 -- each path has a list of names
 pub path_names_exist : (path : List ℕ) → (names : List (List ℕ)) × ArePathNames path names
@@ -36,9 +36,9 @@ path_names_exist (x ∷ []) =
 
 pub path_names_unique : (path : List ℕ) (a b : List (List ℕ)) → ArePathNames path a → ArePathNames path b → a ≡ b
 path_names_unique path a b (inl (is, none)) (inl (too, nothing)) = none ∙ sym nothing
-path_names_unique path a b (inl (is, none)) (inr (other, cut)) = absurd (other is)
-path_names_unique path a b (inr (other, cut)) (inl (is, none)) = absurd (other is)
-path_names_unique path a b (inr (other, cut)) (inr (too, again)) = split_at_each_unique slash path a b cut again
+path_names_unique path a b (inl (is, none)) (inr (other, split)) = absurd (other is)
+path_names_unique path a b (inr (other, split)) (inl (is, none)) = absurd (other is)
+path_names_unique path a b (inr (other, split)) (inr (too, again)) = split_at_each_unique slash path a b split again
 
 -- ---- `KIND HEX PATH`
 
@@ -114,12 +114,12 @@ no_id_of_token hash entry token after hex rest splits again none = λ kind id pa
 entry_at_unique : (hash : hash.Kind) (entry : List ℕ) (kind kind' : EntryKind) (id id' : ObjectId) (path path' : List ℕ) → IsEntryAt hash entry kind id path
     → IsEntryAt hash entry kind' id' path' → (kind ≡ kind') × (id ≡ id') × (path ≡ path')
 entry_at_unique hash entry kind kind' id id' path path' first second =
-    let words = split_parts_unique 32 (entry_kind_name kind) (keyword_and first.hex path) (entry_kind_name kind') (keyword_and second.hex path')
+    let same_parts = split_parts_unique 32 (entry_kind_name kind) (keyword_and first.hex path) (entry_kind_name kind') (keyword_and second.hex path')
     (keyword_space_free kind)
     (keyword_space_free kind') (sym first.joined ∙ second.joined) in
     let encodings = split_parts_unique 32 first.hex path second.hex path' (hex_space_free hash first.hex id first.is_hex_of_id)
-    (hex_space_free hash second.hex id' second.is_hex_of_id) words.1 in
-    (entry_kind_name_injective kind kind' words.0, cc (first.is_hex_of_id.1, second.is_hex_of_id.1, encodings.0), encodings.1)
+    (hex_space_free hash second.hex id' second.is_hex_of_id) same_parts.1 in
+    (entry_kind_name_injective kind kind' same_parts.0, cc (first.is_hex_of_id.1, second.is_hex_of_id.1, encodings.0), encodings.1)
 
 -- ---- keywords
 
@@ -225,9 +225,9 @@ pub no_command_without_edit : (hash : hash.Kind) (bytes prefix rest : List ℕ) 
     → HasNoCommand hash (keyword_and (codes "at") bytes)
 no_command_without_edit hash bytes prefix rest splits none =
     has_no_command_of_no_edit_at hash bytes (λ names edits is.
-    let cut = split_parts_unique 32 prefix rest is.prefix is.rest splits.first is.no_space (sym splits.joined ∙ is.joined) in
+    let split = split_parts_unique 32 prefix rest is.prefix is.rest splits.first is.no_space (sym splits.joined ∙ is.joined) in
     let P : List ℕ → Type 0 = λ it. DecodesToEdit hash it is.edit in
-    none is.edit (subst P (sym cut.1) is.is))
+    none is.edit (subst P (sym split.1) is.is))
 
 pub has_command_of_edit_at : (hash : hash.Kind) (bytes prefix rest : List ℕ) → SplitsAt 32 bytes prefix rest → HasEdit hash rest
     → HasCommand hash (keyword_and (codes "at") bytes)
@@ -256,11 +256,11 @@ has_command_of_edit hash bytes (edit, is) = (one_edit edit, is)
 edit_at_unique : (hash : hash.Kind) (bytes : List ℕ) (names names' : List (List ℕ)) (edits edits' : List EditView) → IsEditAt hash bytes names edits
     → IsEditAt hash bytes names' edits' → (names ≡ names') × (edits ≡ edits')
 edit_at_unique hash bytes names names' edits edits' first second =
-    let cut = split_parts_unique 32 first.prefix first.rest second.prefix second.rest first.no_space second.no_space (sym first.joined ∙ second.joined) in
+    let split = split_parts_unique 32 first.prefix first.rest second.prefix second.rest first.no_space second.no_space (sym first.joined ∙ second.joined) in
     let P : List ℕ → Type 0 = λ it. DecodesToEdit hash it second.edit in
     let Q : List ℕ → Type 0 = λ it. ArePathNames it names' in
-    let edit = edit_unique hash first.rest first.edit second.edit first.is (subst P (sym cut.1) second.is) in
-    (path_names_unique first.prefix names names' first.names_of_prefix (subst Q (sym cut.0) second.names_of_prefix), cc (first.one, second.one, edit))
+    let edit = edit_unique hash first.rest first.edit second.edit first.is (subst P (sym split.1) second.is) in
+    (path_names_unique first.prefix names names' first.names_of_prefix (subst Q (sym split.0) second.names_of_prefix), cc (first.one, second.one, edit))
 
 pub command_unique : (hash : hash.Kind) (bytes : List ℕ) (a b : CommandView) → DecodesToCommand hash bytes a → DecodesToCommand hash bytes b → a ≡ b
 command_unique hash bytes (one_edit edit) (one_edit edit') is is' = ap one_edit (edit_unique hash bytes edit edit' is is')

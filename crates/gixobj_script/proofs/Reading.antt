@@ -1,4 +1,5 @@
--- Parsing of a script line by line; used for `parse_script` and laws of scripts.
+-- A script that is parsed line by line decodes to the commands of its lines, or has a first bad line; used for
+-- `parse_script` and laws of scripts.
 use Rattle.std.proofs.Common.{◌≡◌, ◌≢◌, ◌+◌, ◌++◌, ◌∷◌, ◌≤◌, ℕ, All, List, [], ap, append_assoc, arith, inl, inr, length, length-append, refl, subst, sym, ◌∙◌}
 use Rattle.std.proofs.lemmas.List.Elements.{All-nil, All-push}
 use Rattle.std.specs.List.{AllZip}
@@ -83,9 +84,9 @@ pub is_reached_at_line : (hash : hash.Kind) (content rest line after : List ℕ)
     → IsReadTo hash content rest commands number
     → SplitsAt newline rest line after → IsReached hash content number line
 is_reached_at_line hash content rest line after commands number so_far splits =
-    let (others, cut) = split_at_each_exists newline after in
+    let (others, split) = split_at_each_exists newline after in
     let entire = is_split_at_each_append newline content after (so_far.lines ++ line ∷ []) others
-    (are_prefixes_snoc newline content rest so_far.lines line after so_far.prefix splits) cut in
+    (are_prefixes_snoc newline content rest so_far.lines line after so_far.prefix splits) split in
     let P : List (List ℕ) → Type 0 = IsSplitAtEach newline content in
     record {
       before = so_far.lines;

@@ -93,10 +93,10 @@ no_malformed_line_of_script hash content commands number script (line, is, bad) 
 is_split_at_each_snoc_newline : (content : List ℕ) (lines : List (List ℕ)) → IsSplitAtEach newline content lines
     → IsSplitAtEach newline (content ++ newline ∷ [])
     (lines ++ [] ∷ [])
-is_split_at_each_snoc_newline content lines cut =
+is_split_at_each_snoc_newline content lines split =
     record {
-      joined = ap (λ (it : List ℕ). it ++ newline ∷ []) cut.joined ∙ sym (flat_map_ended_append newline lines ([] ∷ []));
-      free = All-push (IsByteFree newline) lines [] cut.free (All-nil (λ (it : ℕ). it ≡ newline → ⊥));
+      joined = ap (λ (it : List ℕ). it ++ newline ∷ []) split.joined ∙ sym (flat_map_ended_append newline lines ([] ∷ []));
+      free = All-push (IsByteFree newline) lines [] split.free (All-nil (λ (it : ℕ). it ≡ newline → ⊥));
     }
 
 filled_lines_snoc_nil : (lines : List (List ℕ)) → filled_lines (lines ++ [] ∷ []) ≡ filled_lines lines
@@ -119,7 +119,7 @@ is_script_iff_with_newline hash content commands = (with_newline, without)
 
     without : IsScript hash (content ++ newline ∷ []) commands → IsScript hash content commands
     without script =
-        let (lines, cut) = split_at_each_exists newline content in
+        let (lines, split) = split_at_each_exists newline content in
         let same = split_at_each_unique newline (content ++ newline ∷ []) script.lines (lines ++ [] ∷ []) script.split_parts
-        (is_split_at_each_snoc_newline content lines cut) in
-        record { lines = lines; split_parts = cut; each = subst P (ap filled_lines same ∙ filled_lines_snoc_nil lines) script.each }
+        (is_split_at_each_snoc_newline content lines split) in
+        record { lines = lines; split_parts = split; each = subst P (ap filled_lines same ∙ filled_lines_snoc_nil lines) script.each }

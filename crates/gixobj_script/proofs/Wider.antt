@@ -17,7 +17,7 @@ use Rattle.gixobj_files.specs.Emission.{EmitsSome}
 use Rattle.gixobj_files.specs.State.{State, open_bases, open_dirs}
 use Rattle.gixobj_hash.specs.declared.hash.object_id.ObjectId.{ObjectId}
 use Rattle.gixobj_tree.specs.Entries.{EntryView, Pair}
-use Rattle.gixobj_editor.specs.Commands.{Place, at_cursor, at_root}
+use Rattle.gixobj_editor.specs.Commands.{Location, at_cursor, at_root}
 use Rattle.gixobj_editor.specs.Replies.{Answers, AreEditReplies, Denies, ReturnsTreeId, IsEditReply, IsFailedWrite, IsReply, IsReplyAt, IsRun, IsWriteKept, IsWrittenAt, dirs_at}
 use Rattle.gixobj_editor.specs.declared.reply.EditReply.{EditReply}
 use Rattle.gixobj_editor.specs.declared.reply.EditReply.TheVariants as edit_reply
@@ -32,13 +32,13 @@ module _ {S E : Type 0} (model : StoreModel S) (answers wider : Answers E) (with
   folds requested_hash [] answered is = is
   folds requested_hash (pair ∷ pairs) answered (next, one, rest) = (next, within pair.1 (Ok pair.0) one, folds next pairs answered rest)
 
-  written : (place : Place) (it : Written) (old new : State S) → IsWrittenAt answers place it old new → IsWrittenAt wider place it old new
+  written : (location : Location) (it : Written) (old new : State S) → IsWrittenAt answers location it old new → IsWrittenAt wider location it old new
   written at_root it old new is = record {
     emitted = is.emitted;
     called = folds tt it.trees.items tt is.called;
     storable = is.storable;
     below = is.below;
-    own = is.own;
+    written_tree = is.written_tree;
     last = is.last;
     dirs = is.dirs;
     bases = is.bases;
@@ -52,7 +52,7 @@ module _ {S E : Type 0} (model : StoreModel S) (answers wider : Answers E) (with
     called = folds tt it.trees.items tt is.called;
     storable = is.storable;
     below = is.below;
-    own = is.own;
+    written_tree = is.written_tree;
     last = is.last;
     dirs = is.dirs;
     bases = is.bases;
@@ -63,13 +63,13 @@ module _ {S E : Type 0} (model : StoreModel S) (answers wider : Answers E) (with
     has_bases = is.has_bases;
   }
 
-  kept : (place : Place) (it : Written) (Keeps : Objects → Objects → Type 0) (old new : State S)
-      → IsWriteKept model (IsWrittenAt answers place it old) Keeps old new
-      → IsWriteKept model (IsWrittenAt wider place it old) Keeps old new
-  kept place it Keeps old new is =
+  kept : (location : Location) (it : Written) (Keeps : Objects → Objects → Type 0) (old new : State S)
+      → IsWriteKept model (IsWrittenAt answers location it old) Keeps old new
+      → IsWriteKept model (IsWrittenAt wider location it old) Keeps old new
+  kept location it Keeps old new is =
       record {
         between = is.between;
-        written = written place it old is.between is.written;
+        written = written location it old is.between is.written;
         rest = is.rest;
         stored = is.stored;
         may_fail = is.may_fail;
@@ -88,35 +88,35 @@ module _ {S E : Type 0} (model : StoreModel S) (answers wider : Answers E) (with
       }
   stopped EmitsPairs write.OutOfMemory is = record { before = is.before; rest = is.rest; called = folds tt is.before tt is.called; emitted = is.emitted }
 
-  failed_write : (place : Place) (old : State S) (error : WriteError E) (new : State S) → IsFailedWrite answers place old error new
-      → IsFailedWrite wider place old error new
-  failed_write place old error new is =
+  failed_write : (location : Location) (old : State S) (error : WriteError E) (new : State S) → IsFailedWrite answers location old error new
+      → IsFailedWrite wider location old error new
+  failed_write location old error new is =
       record {
-        cause = stopped (EmitsSome (dirs_at place (open_dirs old)) (dirs_at place (open_bases old))) error is.cause;
+        cause = stopped (EmitsSome (dirs_at location (open_dirs old)) (dirs_at location (open_bases old))) error is.cause;
         unchanged = is.unchanged;
       }
 
-  edit_reply_wider : (place : Place) (old new : State S) (it : Edit) (its_reply : EditReply E) → IsEditReply model answers place old it its_reply new
-      → IsEditReply model wider place old it its_reply new
-  edit_reply_wider place old new (edit.Upsert path kind id) edit_reply.Done is = is
-  edit_reply_wider place old new (edit.Upsert path kind id) (edit_reply.Refused error) is = is
-  edit_reply_wider place old new (edit.Remove path) edit_reply.Done is = is
-  edit_reply_wider place old new (edit.Remove path) (edit_reply.Refused error) is = is
-  edit_reply_wider place old new (edit.RemoveLeaf path) edit_reply.Done is = is
-  edit_reply_wider place old new (edit.RemoveLeaf path) (edit_reply.Refused error) is = is
-  edit_reply_wider place old new edit.Write (edit_reply.Written it) is = kept place it _ old new is
-  edit_reply_wider place old new edit.Write (edit_reply.NotKept it count error) is = kept place it _ old new is
-  edit_reply_wider place old new edit.Write (edit_reply.WriteRefused error) is = failed_write place old error new is
-  edit_reply_wider place old new it its_reply is = absurd is
+  edit_reply_wider : (location : Location) (old new : State S) (it : Edit) (its_reply : EditReply E) → IsEditReply model answers location old it its_reply new
+      → IsEditReply model wider location old it its_reply new
+  edit_reply_wider location old new (edit.Upsert path kind id) edit_reply.Done is = is
+  edit_reply_wider location old new (edit.Upsert path kind id) (edit_reply.Refused error) is = is
+  edit_reply_wider location old new (edit.Remove path) edit_reply.Done is = is
+  edit_reply_wider location old new (edit.Remove path) (edit_reply.Refused error) is = is
+  edit_reply_wider location old new (edit.RemoveLeaf path) edit_reply.Done is = is
+  edit_reply_wider location old new (edit.RemoveLeaf path) (edit_reply.Refused error) is = is
+  edit_reply_wider location old new edit.Write (edit_reply.Written it) is = kept location it _ old new is
+  edit_reply_wider location old new edit.Write (edit_reply.NotKept it count error) is = kept location it _ old new is
+  edit_reply_wider location old new edit.Write (edit_reply.WriteRefused error) is = failed_write location old error new is
+  edit_reply_wider location old new it its_reply is = absurd is
 
-  edit_replies_wider : (place : Place) (old new : State S) (edits : List Edit) (replies : List (EditReply E))
-      → AreEditReplies model answers place old edits replies new
-      → AreEditReplies model wider place old edits replies new
-  edit_replies_wider place old new [] [] is = is
-  edit_replies_wider place old new (it ∷ edits) (its_reply ∷ replies) (between, first, rest) =
-      (between, edit_reply_wider place old between it its_reply first, edit_replies_wider place between new edits replies rest)
-  edit_replies_wider place old new [] (its_reply ∷ replies) is = absurd is
-  edit_replies_wider place old new (it ∷ edits) [] is = absurd is
+  edit_replies_wider : (location : Location) (old new : State S) (edits : List Edit) (replies : List (EditReply E))
+      → AreEditReplies model answers location old edits replies new
+      → AreEditReplies model wider location old edits replies new
+  edit_replies_wider location old new [] [] is = is
+  edit_replies_wider location old new (it ∷ edits) (its_reply ∷ replies) (between, first, rest) =
+      (between, edit_reply_wider location old between it its_reply first, edit_replies_wider location between new edits replies rest)
+  edit_replies_wider location old new [] (its_reply ∷ replies) is = absurd is
+  edit_replies_wider location old new (it ∷ edits) [] is = absurd is
 
   reply_at_wider : (prefix : Path) (old new : State S) (edits : List Edit) (its_reply : Reply E)
       → IsReplyAt model answers prefix old edits its_reply new

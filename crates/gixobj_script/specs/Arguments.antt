@@ -4,8 +4,8 @@ use Rattle.gixobj_show.specs.Arguments.{IsCommand, IsOtherCommand}
 
 -- the arguments request the run of a script
 abbrev pub IsEditCommand : List (List ℕ) → Type 0
-IsEditCommand words = IsCommand words (codes "edit")
+IsEditCommand arguments = IsCommand arguments (codes "edit")
 
 -- the arguments request neither of `tree` and `edit`
 abbrev pub IsNeitherCommand : List (List ℕ) → Type 0
-IsNeitherCommand words = IsOtherCommand words (codes "tree") × IsOtherCommand words (codes "edit")
+IsNeitherCommand arguments = IsOtherCommand arguments (codes "tree") × IsOtherCommand arguments (codes "edit")

@@ -18,7 +18,7 @@ use gixobj_show::input::read_all;
 use std::alloc::Global;
 use std::io::{Read, Write};
 
-/// Runs the program on `words`, the arguments after its name, and returns the exit status.
+/// Runs the program on `arguments`, those after its name, and returns the exit status.
 ///
 /// `show`, `tree` and `edit` read the entire input. Ids are of SHA-1, or of SHA-256 with a second argument
 /// `sha256`.
@@ -46,48 +46,48 @@ use std::io::{Read, Write};
 /// [`listing`](gixobj_list::tree::listing), or `show`.
 pub fn engine<R: Read, O: Write, E: Write>(
     alloc: Global,
-    words: &[String],
+    arguments: &[String],
     input: &mut R,
     output: &mut O,
     errors: &mut E,
 ) -> u8
-    ensures written { result ≡ 0 → IsNeitherCommand (map string_bytes words.now)
-        → Answered (map string_bytes words.now) (R.remaining input.old) (R.remaining input.new)
+    ensures written { result ≡ 0 → IsNeitherCommand (map string_bytes arguments.now)
+        → Answered (map string_bytes arguments.now) (R.remaining input.old) (R.remaining input.new)
         (writer_view (O.contents output.old)) (writer_view (O.contents output.new)) }
-    ensures error { result ≢ 0 → IsNeitherCommand (map string_bytes words.now)
-        → IsReportedError (map string_bytes words.now) (R.remaining input.old) (R.remaining input.new) ⊤
+    ensures error { result ≢ 0 → IsNeitherCommand (map string_bytes arguments.now)
+        → IsReportedError (map string_bytes arguments.now) (R.remaining input.old) (R.remaining input.new) ⊤
         (writer_view (O.contents output.old)) (writer_view (O.contents output.new))
         (writer_view (E.contents errors.old)) (writer_view (E.contents errors.new))
         (input.new ≡ input.old) (output.new ≡ output.old) result }
-    ensures list_written { result ≡ 0 → IsListCommand (map string_bytes words.now)
-        → Listed (map string_bytes words.now) (R.remaining input.old) (R.remaining input.new)
+    ensures list_written { result ≡ 0 → IsListCommand (map string_bytes arguments.now)
+        → Listed (map string_bytes arguments.now) (R.remaining input.old) (R.remaining input.new)
         (writer_view (O.contents output.old)) (writer_view (O.contents output.new)) }
-    ensures list_error { result ≢ 0 → IsListCommand (map string_bytes words.now)
-        → IsUnlisted (map string_bytes words.now) (R.remaining input.old) (R.remaining input.new) ⊤
+    ensures list_error { result ≢ 0 → IsListCommand (map string_bytes arguments.now)
+        → IsUnlisted (map string_bytes arguments.now) (R.remaining input.old) (R.remaining input.new) ⊤
         (writer_view (O.contents output.old)) (writer_view (O.contents output.new))
         (writer_view (E.contents errors.old)) (writer_view (E.contents errors.new))
         (output.new ≡ output.old) result }
-    ensures edit_written { result ≡ 0 → IsEditCommand (map string_bytes words.now)
-        → Edited (map string_bytes words.now) (R.remaining input.old) (R.remaining input.new)
+    ensures edit_written { result ≡ 0 → IsEditCommand (map string_bytes arguments.now)
+        → Edited (map string_bytes arguments.now) (R.remaining input.old) (R.remaining input.new)
         (writer_view (O.contents output.old)) (writer_view (O.contents output.new)) }
-    ensures edit_error { result ≢ 0 → IsEditCommand (map string_bytes words.now)
-        → IsFault (map string_bytes words.now) (R.remaining input.old) (R.remaining input.new) ⊤
+    ensures edit_error { result ≢ 0 → IsEditCommand (map string_bytes arguments.now)
+        → IsFault (map string_bytes arguments.now) (R.remaining input.old) (R.remaining input.new) ⊤
         (writer_view (O.contents output.old)) (writer_view (O.contents output.new))
         (writer_view (E.contents errors.old)) (writer_view (E.contents errors.new))
         (output.new ≡ output.old) result }
     ensures no_error { result ≡ 0 → errors.new ≡ errors.old }
 {
-    if let Some(hash) = requested_hash("edit", words) {
+    if let Some(hash) = requested_hash("edit", arguments) {
         return run_script(
             alloc,
-            words,
+            arguments,
             hash,
             &mut FromRead(input),
             &mut ToWrite(output),
             &mut ToWrite(errors),
         );
     }
-    gixobj_list::engine::engine(alloc, words, input, output, errors)
+    gixobj_list::engine::engine(alloc, arguments, input, output, errors)
 }
 
 /// Runs the program like [`engine`], over a source and two sinks, which state when they may fail.
@@ -95,80 +95,80 @@ pub fn engine<R: Read, O: Write, E: Write>(
 /// Over a slice and two vectors with capacity, the input never fails and each line is written.
 pub fn run<S: Source, O: Sink, E: Sink>(
     alloc: Global,
-    words: &[String],
+    arguments: &[String],
     input: &mut S,
     output: &mut O,
     errors: &mut E,
 ) -> u8
-    ensures written { result ≡ 0 → IsNeitherCommand (map string_bytes words.now)
-        → Answered (map string_bytes words.now) (S.rest input.old) (S.rest input.new)
+    ensures written { result ≡ 0 → IsNeitherCommand (map string_bytes arguments.now)
+        → Answered (map string_bytes arguments.now) (S.rest input.old) (S.rest input.new)
         (O.view output.old) (O.view output.new) }
-    ensures error { result ≢ 0 → IsNeitherCommand (map string_bytes words.now)
-        → IsReportedError (map string_bytes words.now) (S.rest input.old) (S.rest input.new)
+    ensures error { result ≢ 0 → IsNeitherCommand (map string_bytes arguments.now)
+        → IsReportedError (map string_bytes arguments.now) (S.rest input.old) (S.rest input.new)
         (S.may_fail input.old) (O.view output.old) (O.view output.new) (E.view errors.old)
         (E.view errors.new) (input.new ≡ input.old) (output.new ≡ output.old) result }
-    ensures list_written { result ≡ 0 → IsListCommand (map string_bytes words.now)
-        → Listed (map string_bytes words.now) (S.rest input.old) (S.rest input.new)
+    ensures list_written { result ≡ 0 → IsListCommand (map string_bytes arguments.now)
+        → Listed (map string_bytes arguments.now) (S.rest input.old) (S.rest input.new)
         (O.view output.old) (O.view output.new) }
-    ensures list_error { result ≢ 0 → IsListCommand (map string_bytes words.now)
-        → IsUnlisted (map string_bytes words.now) (S.rest input.old) (S.rest input.new)
+    ensures list_error { result ≢ 0 → IsListCommand (map string_bytes arguments.now)
+        → IsUnlisted (map string_bytes arguments.now) (S.rest input.old) (S.rest input.new)
         (S.may_fail input.old) (O.view output.old) (O.view output.new) (E.view errors.old)
         (E.view errors.new) (output.new ≡ output.old) result }
-    ensures edit_written { result ≡ 0 → IsEditCommand (map string_bytes words.now)
-        → Edited (map string_bytes words.now) (S.rest input.old) (S.rest input.new)
+    ensures edit_written { result ≡ 0 → IsEditCommand (map string_bytes arguments.now)
+        → Edited (map string_bytes arguments.now) (S.rest input.old) (S.rest input.new)
         (O.view output.old) (O.view output.new) }
-    ensures edit_error { result ≢ 0 → IsEditCommand (map string_bytes words.now)
-        → IsFault (map string_bytes words.now) (S.rest input.old) (S.rest input.new)
+    ensures edit_error { result ≢ 0 → IsEditCommand (map string_bytes arguments.now)
+        → IsFault (map string_bytes arguments.now) (S.rest input.old) (S.rest input.new)
         (S.may_fail input.old) (O.view output.old) (O.view output.new) (E.view errors.old)
         (E.view errors.new) (output.new ≡ output.old) result }
     ensures no_error { result ≡ 0 → errors.new ≡ errors.old }
     ensures same_loans { (S.loan input.new ≡ S.loan input.old)
         × (O.loan output.new ≡ O.loan output.old) × (E.loan errors.new ≡ E.loan errors.old) }
 {
-    if let Some(hash) = requested_hash("edit", words) {
-        return run_script(alloc, words, hash, input, output, errors);
+    if let Some(hash) = requested_hash("edit", arguments) {
+        return run_script(alloc, arguments, hash, input, output, errors);
     }
-    gixobj_list::engine::run(alloc, words, input, output, errors)
+    gixobj_list::engine::run(alloc, arguments, input, output, errors)
 }
 
-/// Runs a script and returns the exit status, or writes the fault. `words` have to request `edit` with
+/// Runs a script and returns the exit status, or writes the fault. `arguments` have to request `edit` with
 /// `hash`.
 fn run_script<S: Source, O: Sink, E: Sink>(
     alloc: Global,
-    words: &[String],
+    arguments: &[String],
     hash: hash::Kind,
     input: &mut S,
     output: &mut O,
     errors: &mut E,
 ) -> u8
-    requires command { IsCommandOfHash (map string_bytes words.now) (codes "edit") hash }
-    ensures written { result ≡ 0 → Edited (map string_bytes words.now) (S.rest input.old)
+    requires command { IsCommandOfHash (map string_bytes arguments.now) (codes "edit") hash }
+    ensures written { result ≡ 0 → Edited (map string_bytes arguments.now) (S.rest input.old)
         (S.rest input.new) (O.view output.old) (O.view output.new) }
-    ensures error { result ≢ 0 → IsFault (map string_bytes words.now) (S.rest input.old)
+    ensures error { result ≢ 0 → IsFault (map string_bytes arguments.now) (S.rest input.old)
         (S.rest input.new) (S.may_fail input.old) (O.view output.old) (O.view output.new)
         (E.view errors.old) (E.view errors.new) (output.new ≡ output.old) result }
     ensures no_error { result ≡ 0 → errors.new ≡ errors.old }
     ensures same_loans { (S.loan input.new ≡ S.loan input.old)
         × (O.loan output.new ≡ O.loan output.old) × (E.loan errors.new ≡ E.loan errors.old) }
 {
-    match edited(alloc, words, hash, input, output) {
+    match edited(alloc, arguments, hash, input, output) {
         Ok(()) => 0,
         Err(fault) => report_fault(alloc, fault, errors),
     }
 }
 
-/// Reads a script, runs it and writes its report. `words` have to request `edit` with `hash`.
+/// Reads a script, runs it and writes its report. `arguments` have to request `edit` with `hash`.
 fn edited<S: Source, O: Sink>(
     alloc: Global,
-    words: &[String],
+    arguments: &[String],
     hash: hash::Kind,
     input: &mut S,
     output: &mut O,
 ) -> Result<(), Fault>
-    requires command { IsCommandOfHash (map string_bytes words.now) (codes "edit") hash }
-    ensures written { OnOk result (Edited (map string_bytes words.now) (S.rest input.old)
+    requires command { IsCommandOfHash (map string_bytes arguments.now) (codes "edit") hash }
+    ensures written { OnOk result (Edited (map string_bytes arguments.now) (S.rest input.old)
         (S.rest input.new) (O.view output.old) (O.view output.new)) }
-    ensures error { IfErr result (IsEditingError (map string_bytes words.now) (S.rest input.old)
+    ensures error { IfErr result (IsEditingError (map string_bytes arguments.now) (S.rest input.old)
         (S.rest input.new) (S.may_fail input.old) (O.view output.old) (O.view output.new)) }
     ensures nothing_written { IfErr result (EditHasWrittenNothing (output.new ≡ output.old)) }
     ensures same_loans { (S.loan input.new ≡ S.loan input.old)

@@ -105,7 +105,7 @@ fn rejects_invalid_arguments_and_input(rt: HostRuntime) {
 }
 
 /// Returns whether the program fails on a script whose reader yields single bytes and fails at the end.
-fn is_cut_off(alloc: Global) -> bool {
+fn fails_at_input_error(alloc: Global) -> bool {
     let mut input = Stepping {
         rest: NESTED,
         step: 1,
@@ -122,7 +122,7 @@ fn is_cut_off(alloc: Global) -> bool {
 /// A script whose reader fails at the end isn't run.
 #[test]
 fn runs_no_command_if_input_fails(rt: HostRuntime) {
-    assert!(rt; is_cut_off(rt.alloc()));
+    assert!(rt; fails_at_input_error(rt.alloc()));
 }
 
 /// Returns whether the output of a script fails in a writer that has room for `room` bytes, after it wrote

@@ -1,3 +1,3 @@
 pub mod Contents
-pub mod FewItems
+pub mod OneOrTwoItems
 mod Errors

@@ -10,12 +10,12 @@ hash_arguments Sha256 = codes "sha256" ∷ []
 
 -- the arguments are this command by this kind of hash
 abbrev pub IsCommandOfHash : List (List ℕ) → List ℕ → Kind → Type 0
-IsCommandOfHash words command hash = words ≡ command ∷ hash_arguments hash
+IsCommandOfHash arguments command hash = arguments ≡ command ∷ hash_arguments hash
 
 -- the arguments are this command by some kind of hash
 abbrev pub IsCommand : List (List ℕ) → List ℕ → Type 0
-IsCommand words command = (hash : Kind) × IsCommandOfHash words command hash
+IsCommand arguments command = (hash : Kind) × IsCommandOfHash arguments command hash
 
 -- the arguments are not this command
 abbrev pub IsOtherCommand : List (List ℕ) → List ℕ → Type 0
-IsOtherCommand words command = (hash : Kind) → ¬ IsCommandOfHash words command hash
+IsOtherCommand arguments command = (hash : Kind) → ¬ IsCommandOfHash arguments command hash

@@ -16,27 +16,27 @@ ReadsAll old new input = Consumes old new input × IsAtEnd new
 
 -- the arguments are `show`, the input was read to its end, and the line is that of the loose object at its beginning
 abbrev pub IsAnswer : List (List ℕ) → Option (List ℕ) → Option (List ℕ) → List ℕ → Type 0
-IsAnswer words rest rest' line =
-    (hash : hash.Kind) × (input : List ℕ) × IsCommandOfHash words (codes "show") hash × ReadsAll rest rest' input
+IsAnswer arguments rest rest' line =
+    (hash : hash.Kind) × (input : List ℕ) × IsCommandOfHash arguments (codes "show") hash × ReadsAll rest rest' input
     × IsShowLine hash input line
 
 -- the line of the loose object was written
 abbrev pub Answered : List (List ℕ) → Option (List ℕ) → Option (List ℕ) → SinkView → SinkView → Type 0
-Answered words rest rest' out out' = (line : List ℕ) × IsAnswer words rest rest' line × AppendsAll out out' line
+Answered arguments rest rest' out out' = (line : List ℕ) × IsAnswer arguments rest rest' line × AppendsAll out out' line
 
 -- the run failed with this error; OutputFailed: a proper prefix of the line of the loose object was written
 abbrev pub IsAnswerError : List (List ℕ) → Option (List ℕ) → Option (List ℕ) → Type 0 → SinkView → SinkView → Failure
     → Type 0
-IsAnswerError words rest rest' may_fail out out' Usage = IsOtherCommand words (codes "show")
-IsAnswerError words rest rest' may_fail out out' InputFailed = IsCommand words (codes "show") × may_fail
-IsAnswerError words rest rest' may_fail out out' OutputFailed = (line : List ℕ) × IsAnswer words rest rest' line
+IsAnswerError arguments rest rest' may_fail out out' Usage = IsOtherCommand arguments (codes "show")
+IsAnswerError arguments rest rest' may_fail out out' InputFailed = IsCommand arguments (codes "show") × may_fail
+IsAnswerError arguments rest rest' may_fail out out' OutputFailed = (line : List ℕ) × IsAnswer arguments rest rest' line
     × FailsToAppend out out' line
-IsAnswerError words rest rest' may_fail out out' OutOfMemory = IsCommand words (codes "show")
-IsAnswerError words rest rest' may_fail out out' BadHeader =
-    IsCommand words (codes "show") × (input : List ℕ) × ReadsAll rest rest' input × BeginsWithNoLooseHeader input
-IsAnswerError words rest rest' may_fail out out' ShortData =
-    IsCommand words (codes "show") × (input : List ℕ) × ReadsAll rest rest' input × IsShort input
-IsAnswerError words rest rest' may_fail out out' _ = ⊥
+IsAnswerError arguments rest rest' may_fail out out' OutOfMemory = IsCommand arguments (codes "show")
+IsAnswerError arguments rest rest' may_fail out out' BadHeader =
+    IsCommand arguments (codes "show") × (input : List ℕ) × ReadsAll rest rest' input × BeginsWithNoLooseHeader input
+IsAnswerError arguments rest rest' may_fail out out' ShortData =
+    IsCommand arguments (codes "show") × (input : List ℕ) × ReadsAll rest rest' input × IsShort input
+IsAnswerError arguments rest rest' may_fail out out' _ = ⊥
 
 -- nothing was read if the arguments are invalid
 abbrev pub HasReadNothing : Type 0 → Failure → Type 0
@@ -56,6 +56,6 @@ IsPrinted errors errors' line = AppendsAll errors errors' line ⊎ FailsToAppend
 -- invalid, and nothing was written to standard output, unless a write to it failed
 abbrev pub IsReportedError : List (List ℕ) → Option (List ℕ) → Option (List ℕ) → Type 0 → SinkView → SinkView → SinkView
     → SinkView → Type 0 → Type 0 → ℕ → Type 0
-IsReportedError words rest rest' may_fail out out' errors errors' same_input same_output status =
-    (cause : Failure) × (status ≡ exit_status_of cause) × IsAnswerError words rest rest' may_fail out out' cause
+IsReportedError arguments rest rest' may_fail out out' errors errors' same_input same_output status =
+    (cause : Failure) × (status ≡ exit_status_of cause) × IsAnswerError arguments rest rest' may_fail out out' cause
     × IsPrinted errors errors' (line_of cause) × HasReadNothing same_input cause × HasWrittenNothing same_output cause

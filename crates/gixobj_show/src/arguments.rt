@@ -14,11 +14,11 @@ use std::rt::Env;
 ///
 /// The command alone requests SHA-1, and a second argument `sha256` requests SHA-256. Returns `None` for
 /// any other arguments.
-pub fn requested_hash(command: &str, words: &[String]) -> Option<hash::Kind>
-    ensures found { IfSome result (IsCommandOfHash (map string_bytes words.now) command.now) }
-    ensures none { IfNone result (IsOtherCommand (map string_bytes words.now) command.now) }
+pub fn requested_hash(command: &str, arguments: &[String]) -> Option<hash::Kind>
+    ensures found { IfSome result (IsCommandOfHash (map string_bytes arguments.now) command.now) }
+    ensures none { IfNone result (IsOtherCommand (map string_bytes arguments.now) command.now) }
 {
-    match words {
+    match arguments {
         [token] if token.as_str() == command => Some(hash::Kind::Sha1),
         [token, sha256] if token.as_str() == command && sha256.as_str() == "sha256" => {
             Some(hash::Kind::Sha256)
@@ -43,7 +43,7 @@ pub fn process_arguments<R: Env + AllocGlobal>(rt: &R) -> Result<Vec<String>, Fa
     };
     let _ = args.next();
     match args.collect(rt.alloc()) {
-        Ok(words) => Ok(words),
+        Ok(arguments) => Ok(arguments),
         Err(_) => Err(Failure::OutOfMemory),
     }
 }

@@ -28,16 +28,16 @@ use std::io::{Read, Write};
 /// write to `errors` fails, only the status reports the failure.
 pub fn engine<R: Read, O: Write, E: Write>(
     alloc: Global,
-    words: &[String],
+    arguments: &[String],
     input: &mut R,
     output: &mut O,
     errors: &mut E,
 ) -> u8
-    ensures written { result ≡ 0 → Answered (map string_bytes words.now) (R.remaining input.old)
+    ensures written { result ≡ 0 → Answered (map string_bytes arguments.now) (R.remaining input.old)
         (R.remaining input.new) (writer_view (O.contents output.old))
         (writer_view (O.contents output.new)) }
     ensures no_error { result ≡ 0 → errors.new ≡ errors.old }
-    ensures error { result ≢ 0 → IsReportedError (map string_bytes words.now) (R.remaining input.old)
+    ensures error { result ≢ 0 → IsReportedError (map string_bytes arguments.now) (R.remaining input.old)
         (R.remaining input.new) ⊤ (writer_view (O.contents output.old))
         (writer_view (O.contents output.new)) (writer_view (E.contents errors.old))
         (writer_view (E.contents errors.new)) (input.new ≡ input.old) (output.new ≡ output.old)
@@ -45,7 +45,7 @@ pub fn engine<R: Read, O: Write, E: Write>(
 {
     run(
         alloc,
-        words,
+        arguments,
         &mut FromRead(input),
         &mut ToWrite(output),
         &mut ToWrite(errors),
@@ -57,22 +57,22 @@ pub fn engine<R: Read, O: Write, E: Write>(
 /// Over a slice and two vectors with capacity, the input never fails, and each line is written.
 pub fn run<S: Source, O: Sink, E: Sink>(
     alloc: Global,
-    words: &[String],
+    arguments: &[String],
     input: &mut S,
     output: &mut O,
     errors: &mut E,
 ) -> u8
-    ensures written { result ≡ 0 → Answered (map string_bytes words.now) (S.rest input.old)
+    ensures written { result ≡ 0 → Answered (map string_bytes arguments.now) (S.rest input.old)
         (S.rest input.new) (O.view output.old) (O.view output.new) }
     ensures no_error { result ≡ 0 → errors.new ≡ errors.old }
-    ensures error { result ≢ 0 → IsReportedError (map string_bytes words.now) (S.rest input.old)
+    ensures error { result ≢ 0 → IsReportedError (map string_bytes arguments.now) (S.rest input.old)
         (S.rest input.new) (S.may_fail input.old) (O.view output.old) (O.view output.new)
         (E.view errors.old) (E.view errors.new) (input.new ≡ input.old) (output.new ≡ output.old)
         result }
     ensures same_loans { (S.loan input.new ≡ S.loan input.old)
         × (O.loan output.new ≡ O.loan output.old) × (E.loan errors.new ≡ E.loan errors.old) }
 {
-    match answer(alloc, words, input, output) {
+    match answer(alloc, arguments, input, output) {
         Ok(()) => 0,
         Err(cause) => report_to(cause, errors),
     }
@@ -81,20 +81,20 @@ pub fn run<S: Source, O: Sink, E: Sink>(
 /// Reads the input, and writes the line of its loose object.
 fn answer<S: Source, O: Sink>(
     alloc: Global,
-    words: &[String],
+    arguments: &[String],
     input: &mut S,
     output: &mut O,
 ) -> Result<(), Failure>
-    ensures written { OnOk result (Answered (map string_bytes words.now) (S.rest input.old)
+    ensures written { OnOk result (Answered (map string_bytes arguments.now) (S.rest input.old)
         (S.rest input.new) (O.view output.old) (O.view output.new)) }
-    ensures error { IfErr result (IsAnswerError (map string_bytes words.now) (S.rest input.old)
+    ensures error { IfErr result (IsAnswerError (map string_bytes arguments.now) (S.rest input.old)
         (S.rest input.new) (S.may_fail input.old) (O.view output.old) (O.view output.new)) }
     ensures nothing_read { IfErr result (HasReadNothing (input.new ≡ input.old)) }
     ensures nothing_written { IfErr result (HasWrittenNothing (output.new ≡ output.old)) }
     ensures same_loans { (S.loan input.new ≡ S.loan input.old)
         × (O.loan output.new ≡ O.loan output.old) }
 {
-    let Some(hash) = requested_hash("show", words) else {
+    let Some(hash) = requested_hash("show", arguments) else {
         return Err(Failure::Usage);
     };
     let bytes = read_all(alloc, input)?;

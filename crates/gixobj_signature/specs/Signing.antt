@@ -12,7 +12,7 @@ use Rattle.gixobj_text.specs.BodyLines.{carriage_return}
 use Rattle.gixobj_text.specs.declared.signature.Format.{Format}
 use Rattle.gixobj_text.specs.declared.signature.Format.TheVariants as format
 use Rattle.gixobj_signature.specs.Calls.{Answer, CallView, Failure, OutputView, WordView, failed, file, no_file, no_memory, no_time, not_spawned, not_reported, pair_view, ran, plain}
-use Rattle.gixobj_signature.specs.Pieces.{git_words}
+use Rattle.gixobj_signature.specs.Pieces.{git_arguments}
 use Rattle.gixobj_signature.specs.Plans.{IsCarriedOut, Plan, run_then, done, no_more}
 use Rattle.gixobj_signature.specs.declared.signature.sign.Options.{Options}
 use Rattle.gixobj_signature.specs.declared.signature.sign.Error.{Error}
@@ -68,13 +68,13 @@ leaving_call it words files result = record {
 -- SSH: the key is in a file of the caller, and the payload is file 0
 abbrev pub path_call : SignOptionsView → List ℕ → CallView
 path_call it payload =
-    leaving_call it (git_words it.arguments (codes "sign") ++ plain (codes "-f") ∷ plain it.key ∷ file 0 ∷ [])
+    leaving_call it (git_arguments it.arguments (codes "sign") ++ plain (codes "-f") ∷ plain it.key ∷ file 0 ∷ [])
     (payload ∷ []) 0
 
 -- SSH: the key is file 0, and the payload is file 1
 abbrev pub literal_call : SignOptionsView → List ℕ → List ℕ → CallView
 literal_call it key payload =
-    leaving_call it (git_words it.arguments (codes "sign") ++ plain (codes "-f") ∷ file 0 ∷ plain
+    leaving_call it (git_arguments it.arguments (codes "sign") ++ plain (codes "-f") ∷ file 0 ∷ plain
     (codes "-U") ∷ file 1 ∷ [])
     (key ∷ payload ∷ []) 1
 

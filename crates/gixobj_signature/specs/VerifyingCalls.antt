@@ -1,7 +1,7 @@
 -- The calls of programs that verify. In each of them file 0 is the signature.
 use Rattle.std.specs.Prelude.{ℕ, List, [], ◌∷◌, ◌++◌, Option, Some, None, codes, map}
 use Rattle.gixobj_signature.specs.Calls.{CallView, WordView, file, plain, verify_time}
-use Rattle.gixobj_signature.specs.Pieces.{git_words}
+use Rattle.gixobj_signature.specs.Pieces.{git_arguments}
 use Rattle.gixobj_signature.specs.Verifiers.{ProgramView, SshView}
 
 -- a call of the program with these arguments, files and input
@@ -18,26 +18,26 @@ full_call it words files input = record {
 -- ---- OpenPGP: the signed data is the input
 
 -- the arguments of an OpenPGP program (gpg(1), "--verify")
-abbrev pub open_pgp_words : ProgramView → List WordView
-open_pgp_words it =
+abbrev pub open_pgp_arguments : ProgramView → List WordView
+open_pgp_arguments it =
     map plain it.arguments
     ++ plain (codes "--keyid-format=long") ∷ plain (codes "--status-fd=1") ∷ plain (codes "--verify") ∷ file 0 ∷ plain
     (codes "-") ∷ []
 
 -- the call of an OpenPGP program
 unfoldable pub open_pgp_call : ProgramView → List ℕ → List ℕ → CallView
-open_pgp_call it signature signed = full_call it (open_pgp_words it) (signature ∷ []) (Some signed)
+open_pgp_call it signature signed = full_call it (open_pgp_arguments it) (signature ∷ []) (Some signed)
 
 -- ---- X.509: the signed data is file 1
 
 -- the arguments of an X.509 program
-abbrev pub x509_words : ProgramView → List WordView
-x509_words it = map plain it.arguments ++ plain (codes "--status-fd=1") ∷ plain (codes "--verify") ∷ file 0 ∷ file 1
+abbrev pub x509_arguments : ProgramView → List WordView
+x509_arguments it = map plain it.arguments ++ plain (codes "--status-fd=1") ∷ plain (codes "--verify") ∷ file 0 ∷ file 1
     ∷ []
 
 -- the call of an X.509 program
 unfoldable pub x509_call : ProgramView → List ℕ → List ℕ → CallView
-x509_call it signature signed = full_call it (x509_words it) (signature ∷ signed ∷ []) None
+x509_call it signature signed = full_call it (x509_arguments it) (signature ∷ signed ∷ []) None
 
 -- ---- SSH: the signed data is the input, and the output is in English
 
@@ -57,30 +57,31 @@ principals_call it ssh signature =
     (signature ∷ []) (Some [])
 
 -- the arguments of a verification for a principal, without the revocation file (ssh-keygen(1), "-Y verify")
-abbrev pub principal_words : ProgramView → SshView → List ℕ → List WordView
-principal_words it ssh principal =
-    git_words it.arguments (codes "verify")
+abbrev pub principal_arguments : ProgramView → SshView → List ℕ → List WordView
+principal_arguments it ssh principal =
+    git_arguments it.arguments (codes "verify")
     ++ plain (codes "-f") ∷ plain ssh.allowed ∷ plain (codes "-I") ∷ plain principal ∷ plain (codes "-s") ∷ file 0
     ∷ verify_time ssh.seconds ssh.offset ∷ []
 
 -- the arguments for the revocation file, if there is one
-abbrev pub revocation_words : Option (List ℕ) → List WordView
-revocation_words None = []
-revocation_words (Some path) = plain (codes "-r") ∷ plain path ∷ []
+abbrev pub revocation_arguments : Option (List ℕ) → List WordView
+revocation_arguments None = []
+revocation_arguments (Some path) = plain (codes "-r") ∷ plain path ∷ []
 
 -- the call that verifies the signature for a principal
 unfoldable pub principal_call : ProgramView → SshView → List ℕ → List ℕ → List ℕ → CallView
 principal_call it ssh signature signed principal =
-    full_call (in_english it) (principal_words it ssh principal ++ revocation_words ssh.revoked) (signature ∷ [])
+    full_call (in_english it) (principal_arguments it ssh principal ++ revocation_arguments ssh.revoked)
+    (signature ∷ [])
     (Some signed)
 
 -- the arguments of a check of the signature for any key (ssh-keygen(1), "-Y check-novalidate")
-abbrev pub novalidate_words : ProgramView → SshView → List WordView
-novalidate_words it ssh =
-    git_words it.arguments (codes "check-novalidate")
+abbrev pub novalidate_arguments : ProgramView → SshView → List WordView
+novalidate_arguments it ssh =
+    git_arguments it.arguments (codes "check-novalidate")
     ++ plain (codes "-s") ∷ file 0 ∷ verify_time ssh.seconds ssh.offset ∷ []
 
 -- the call that checks the signature for any key
 unfoldable pub novalidate_call : ProgramView → SshView → List ℕ → List ℕ → CallView
-novalidate_call it ssh signature signed = full_call (in_english it) (novalidate_words it ssh) (signature ∷ [])
+novalidate_call it ssh signature signed = full_call (in_english it) (novalidate_arguments it ssh) (signature ∷ [])
     (Some signed)

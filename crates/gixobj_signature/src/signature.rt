@@ -1,10 +1,10 @@
 //! Calls of external programs, their output, and the trait [`Runner`] that makes the calls.
 ghost use Rattle.gixobj_signature.specs.Calls.{answer_view, call_view};
 
+pub mod arguments;
 pub mod sign;
 mod signed_data;
 pub mod verify;
-pub mod words;
 
 use bstr::BString;
 use gixobj_actor::date::Time;

@@ -97,9 +97,9 @@ module _ {X : Type 0} (key : X → List ℕ) where
       (k + 1) d (omega arith) high in
       ap is_lt (nat_list_cmp_total.antisymm (key (get_or xs (k + 1) d)) (key (get_or xs k d)) ∙ ap ordering_reverse next)
 
-  pub halved_key : (xs : List X) (searched : List ℕ) (i : ℕ) (d : X) → HoldsAt (λ x. key_cmp key searched x ≡ Equal) xs i
+  pub binary_search_key : (xs : List X) (searched : List ℕ) (i : ℕ) (d : X) → HoldsAt (λ x. key_cmp key searched x ≡ Equal) xs i
       → key (get_or xs i d) ≡ searched
-  halved_key xs searched i d held = eq_of_slice_cmp_equal (key (get_or xs i d)) searched (held d)
+  binary_search_key xs searched i d held = eq_of_slice_cmp_equal (key (get_or xs i d)) searched (held d)
 
   -- each element before one that is less than the searched key is less too; each element after a greater one is greater
   -- too
@@ -150,9 +150,10 @@ module _ {X : Type 0} (key : X → List ℕ) where
   pub narrowed_none : (xs : List X) (searched : List ℕ) (i : ℕ) → IsNarrowed xs searched i i → IsBinarySearchResult (key_cmp key searched) xs (Err i)
   narrowed_none xs searched i narrowed = λ rising. ((λ k d a b. narrowed.prefix k d b), narrowed.back)
 
-  pub halved_none : (xs : List X) → IsAscending key xs → (searched : List ℕ) (i : ℕ) → IsBinarySearchResult (key_cmp key searched) xs (Err i) → (k : ℕ) (d : X)
+  pub binary_search_none : (xs : List X) → IsAscending key xs → (searched : List ℕ) (i : ℕ) → IsBinarySearchResult (key_cmp key searched) xs (Err i)
+      → (k : ℕ) (d : X)
       → k < length xs → key (get_or xs k d) ≢ searched
-  halved_none xs up searched i is k d low same =
+  binary_search_none xs up searched i is k d low same =
       let split = is (searchable_from_sorted nat_list_cmp_total key xs searched (sorted xs up)) in
       let tie : slice_cmp nat_cmp (key (get_or xs k d)) searched ≡ Equal = slice_cmp_equal_of_eq (key (get_or xs k d)) searched same in
       elim (leb_tells i k) [
@@ -160,14 +161,14 @@ module _ {X : Type 0} (key : X → List ℕ) where
         | inr ahead ↦ less_ne_equal _ (split.0 k d (omega arith) ahead.1) tie
       ]
 
-  pub halved_place : (xs : List X) → IsAscending key xs → (searched : List ℕ) (r : Result ℕ ℕ) → IsSearchInRange r (length xs)
+  pub binary_search_position : (xs : List X) → IsAscending key xs → (searched : List ℕ) (r : Result ℕ ℕ) → IsSearchInRange r (length xs)
       → IsBinarySearchResult (key_cmp key searched) xs r
       → MatchResult r (λ i. i ≡ prefix_len (is_before key searched) xs) (λ i. i ≡ prefix_len (is_before key searched) xs)
-  halved_place xs up searched (Ok i) range is =
+  binary_search_position xs up searched (Ok i) range is =
       prefix_is (is_before key searched) xs i (omega arith)
-      (λ k d l. ap is_lt (subst (λ (it : List ℕ). slice_cmp nat_cmp (key (get_or xs k d)) it ≡ Less) (halved_key xs searched i d is)
+      (λ k d l. ap is_lt (subst (λ (it : List ℕ). slice_cmp nat_cmp (key (get_or xs k d)) it ≡ Less) (binary_search_key xs searched i d is)
       (later_at (λ x y. slice_cmp nat_cmp (key x) (key y) ≡ Less) xs up k i d l range)))
       (λ d l. ap is_lt (is d))
-  halved_place xs up searched (Err i) range is =
+  binary_search_position xs up searched (Err i) range is =
       let split = is (searchable_from_sorted nat_list_cmp_total key xs searched (sorted xs up)) in
       prefix_is (is_before key searched) xs i range (λ k d l. ap is_lt (split.0 k d (omega arith) l)) (λ d l. ap is_lt (split.1 i d (omega arith) l))

@@ -1,4 +1,5 @@
--- Positions in pieces: the item at a position is the item at its flat index, and so is a changed one.
+-- The item at a position in pieces is the item of the list at its flat index, also once it is changed, and the position
+-- of a key is that of its item; the proofs of `position_of`, `position_at`, `Neighbours` and open directories use it.
 use Rattle.std.proofs.Common.{◌≡◌, ◌∙◌, ◌+◌, ◌-◌, ◌<◌, ℕ, zero, suc, Bool, false, cond, List, [], ◌∷◌, ◌++◌, HoldsAt, Less, Equal, Greater, Option, true, Some, None, get_or, set, length, length-append, refl, sym, ap, subst, take, arith}
 use mathlib.Core.Bool.{true≢false}
 use Rattle.std.specs.Prelude.{IfNone, IfSome}
@@ -108,7 +109,7 @@ module _ {X Y : Type 0} (items : Y → List X) where
         (omega (arith, bound, length-append first (flat_map items more)))
         (ap key (get_or-append-add first (flat_map items more) inner d ∙ get_or_flat_map more j i d q low within) ∙ here)
 
-    -- the same of a property that holds at an index
+    -- the position of a key whose item is at an index of the first piece or of another one, by `HoldsAt`
     pub position_joined_first_of_held : (i : ℕ) → i < length first → HoldsAt (λ x. key x ≡ k) first i
         → position (has_key key k) (joined items first more) ≡ Some i
     position_joined_first_of_held i low held = let d = element_at first i low in position_joined_first i d low (held d)

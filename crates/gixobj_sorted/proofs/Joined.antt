@@ -1,4 +1,5 @@
--- Lists in pieces: the one piece that an edit changes, and the invariant of the list afterwards.
+-- An edit of one piece of a list in pieces changes the list as it changes the piece, and keeps the invariant of pieces;
+-- the proofs of `pieces`, `positions` and `splits` use it, and those of open directories.
 use Rattle.std.proofs.Common.{◌≡◌, ◌≢◌, ◌∙◌, ◌+◌, ◌<◌, ℕ, zero, suc, Bool, true, false, not, cond, List, [], ◌∷◌, ◌++◌, Less, Equal, Greater, Ordering, Result, Ok, Err, HoldsAt, get_or, set, length, length-append, map, refl, sym, ap, subst, arith}
 use mathlib.Core.Bool.{true≢false}
 use mathlib.Core.List.{append_assoc}

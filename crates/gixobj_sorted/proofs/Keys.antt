@@ -1,4 +1,5 @@
--- Ascending keys and a searched key.
+-- Items before the searched key are less and those after it are greater, if keys ascend, and so are parts of a list;
+-- the proofs of all searches and edits of pieces use it, and those of open directories.
 use Rattle.std.proofs.Common.{◌≡◌, ◌≢◌, ◌∙◌, ℕ, true, false, not, List, [], ◌∷◌, ◌++◌, Less, Equal, Greater, refl, sym, ap, subst}
 use mathlib.Core.Bool.{true≢false}
 use Rattle.std.specs.Cmp.Lexicographic.{slice_cmp}

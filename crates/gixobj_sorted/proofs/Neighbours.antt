@@ -1,4 +1,5 @@
--- A lesser and a greater neighbour show that no item has the searched key.
+-- If neighbours are less and greater than the searched key, then no item has it; the proofs of `is_past_end`,
+-- `remove_unless` and `insert_at` use it, and `WithEntry` of entries.
 use Rattle.std.proofs.Common.{◌≡◌, ◌∙◌, ◌+◌, ◌<◌, ◌≤◌, inl, inr, ℕ, zero, suc, Bool, true, false, cond, List, [], ◌∷◌, ◌++◌, HoldsAt, Less, Greater, None, get_or, length, length-append, refl, sym, ap, subst, arith}
 use mathlib.Core.List.{append_assoc}
 use Rattle.std.specs.List.{filter, find, flat_map}

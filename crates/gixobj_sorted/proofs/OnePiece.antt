@@ -1,4 +1,5 @@
--- Searches and edits of ascending items: what they make of a list is what they make of the part about the searched key.
+-- A search or an edit of ascending items makes of a list what it makes of the part about the searched key; the proofs
+-- of `find_in`, `insert_in`, `remove_in` and `position_at` use it, and `Joined`.
 use Rattle.std.proofs.Common.{◌≡◌, ◌∙◌, ◌+◌, ◌<◌, ℕ, suc, Bool, true, false, not, cond, List, [], ◌∷◌, ◌++◌, HoldsAt, Less, Equal, Greater, Ordering, Option, Some, None, get_or, set, length, refl, sym, ap, subst, arith}
 use mathlib.Core.Bool.{true≢false}
 use mathlib.Core.List.{append-nil, append_assoc}
@@ -119,7 +120,7 @@ module _ {X : Type 0} (key : X → List ℕ) (k : List ℕ) where
         | Greater ↦ λ e no. ap (λ l. x ∷ l) (sym (without_key_of_all_greater xs (all_greater_of_head_not_before x xs up.0 (ap is_lt e))))
       ] refl
 
-  -- the same of what a search in the piece answers
+  -- what a search in the piece finds, and the piece without it, if `i` is the position of the key
   module _ (xs : List X) (i : ℕ) (up : IsAscending key xs) (at : i ≡ prefix_len (is_before key k) xs) where
     absent_at : (i < length xs → HoldsAt (λ x. has_key key k x ≡ false) xs i) → (d : X) → prefix_len (is_before key k) xs < length xs
         → has_key key k (get_or xs (prefix_len (is_before key k) xs) d) ≡ false
@@ -141,7 +142,7 @@ module _ {X : Type 0} (key : X → List ℕ) (k : List ℕ) where
     without_key_of_none : (i < length xs → HoldsAt (λ x. has_key key k x ≡ false) xs i) → xs ≡ without_key key k xs
     without_key_of_none none = without_key_at_prefix_len xs up (absent_at none)
 
-  -- the same of a search in a list that equals the piece
+  -- the piece without what a search finds in a list that equals the piece
   module _ (l xs : List X) (list : l ≡ xs) {i : ℕ} (up : IsAscending key xs) (at : i ≡ prefix_len (is_before key k) l) where
     pub remove_of_found_in : (d : X) → i < length l → HoldsAt (λ x. has_key key k x ≡ true) l i → remove xs i ≡ without_key key k xs
     remove_of_found_in d low has =
@@ -210,7 +211,7 @@ module _ {X : Type 0} (key : X → List ℕ) (x : X) where
             rw (filter_before_of_all_greater key (key x) xs all, filter_after_of_all_greater key (key x) xs all) refl
       ] refl
 
-  -- the same of what a search in the piece answers
+  -- the piece with the item, set or inserted, if `i` is the position of its key
   module _ (xs : List X) (i : ℕ) (up : IsAscending key xs) (at : i ≡ prefix_len (is_before key (key x)) xs) where
     pub set_of_found : i < length xs → HoldsAt (λ y. has_key key (key x) y ≡ true) xs i → set xs i x ≡ with_item key x xs
     set_of_found low has =
@@ -230,19 +231,19 @@ module _ {X : Type 0} (name : X → List ℕ) (is_tree : X → Bool) (x : X) (l 
       subst (λ (it : List X). P it (item_key name is_tree x)) list
       (subst (λ (u : Bool). P l (key_of (name x) u)) kind (subst (λ (m : List ℕ). P l (key_of m t)) named h))
 
-  own_place : (i : ℕ) → i ≡ prefix_len (is_before (item_key name is_tree) (key_of n t)) l
+  position_of_own_key : (i : ℕ) → i ≡ prefix_len (is_before (item_key name is_tree) (key_of n t)) l
       → i ≡ prefix_len (is_before (item_key name is_tree) (item_key name is_tree x)) xs
-  own_place i = at_own_key (λ it k. i ≡ prefix_len (is_before (item_key name is_tree) k) it)
+  position_of_own_key i = at_own_key (λ it k. i ≡ prefix_len (is_before (item_key name is_tree) k) it)
 
   module _ (i : ℕ) (up : IsAscending (item_key name is_tree) xs) (at : i ≡ prefix_len (is_before (item_key name is_tree) (key_of n t)) l) where
     pub set_of_own_found : i < length l → HoldsAt (λ y. has_key (item_key name is_tree) (key_of n t) y ≡ true) l i
         → set xs i x ≡ with_item (item_key name is_tree) x xs
     set_of_own_found low has =
-        set_of_found (item_key name is_tree) x xs i up (own_place i at) (subst (λ (it : List X). i < length it) list low)
+        set_of_found (item_key name is_tree) x xs i up (position_of_own_key i at) (subst (λ (it : List X). i < length it) list low)
         (at_own_key (λ it k. HoldsAt (λ y. has_key (item_key name is_tree) k y ≡ true) it i) has)
 
     pub insert_of_own_none : (i < length l → HoldsAt (λ y. has_key (item_key name is_tree) (key_of n t) y ≡ false) l i)
         → insert xs i x ≡ with_item (item_key name is_tree) x xs
     insert_of_own_none none =
-        insert_of_none (item_key name is_tree) x xs i up (own_place i at)
+        insert_of_none (item_key name is_tree) x xs i up (position_of_own_key i at)
         (at_own_key (λ it k. i < length it → HoldsAt (λ y. has_key (item_key name is_tree) k y ≡ false) it i) none)

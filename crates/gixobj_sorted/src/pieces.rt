@@ -49,7 +49,7 @@ fn find_in<'a, T: Named>(piece: &'a [T], name: &[u8], is_tree: bool) -> Option<&
         (key_of name.now is_tree)) piece.now }
 {
     match position_in(piece, name, is_tree) {
-        Ok(place) => Some(&piece[place]),
+        Ok(index) => Some(&piece[index]),
         Err(_) => None,
     }
 }
@@ -105,18 +105,18 @@ fn insert_in<T: Named>(piece: &mut Vec<T>, before: usize, after: usize, item: T)
     ensures capacity { vec_capacity piece.old ≤ vec_capacity piece.new }
 {
     match position_in(piece, item.name(), item.is_tree()) {
-        Ok(place) => {
-            let gap = place.saturating_add(usize::from(!item.is_tree()));
+        Ok(index) => {
+            let gap = index.saturating_add(usize::from(!item.is_tree()));
             let is_alone = is_alone_in(piece, gap, before, after, &item);
-            piece[place] = item;
+            piece[index] = item;
             Inserted {
                 is_new: false,
                 is_alone,
             }
         }
-        Err(place) => {
-            let is_alone = is_alone_in(piece, place, before, after, &item);
-            let _ = piece.insert(place, item);
+        Err(index) => {
+            let is_alone = is_alone_in(piece, index, before, after, &item);
+            let _ = piece.insert(index, item);
             Inserted {
                 is_new: true,
                 is_alone,
@@ -222,8 +222,8 @@ fn remove_in<T: Named>(piece: &mut Vec<T>, name: &[u8], is_tree: bool) -> bool
     ensures capacity { vec_capacity piece.old ≤ vec_capacity piece.new }
 {
     match position_in(piece, name, is_tree) {
-        Ok(place) => {
-            piece.remove(place);
+        Ok(index) => {
+            piece.remove(index);
             true
         }
         Err(_) => false,

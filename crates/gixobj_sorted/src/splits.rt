@@ -36,8 +36,8 @@ pub fn reserve<T: Named>(
         more.new.items) }
     ensures capacity { vec_capacity first.old ≤ vec_capacity first.new }
 {
-    let place = piece_of(more, name, is_tree);
-    let at = split_at(first, more, place, name, is_tree)?;
+    let position = piece_of(more, name, is_tree);
+    let at = split_at(first, more, position, name, is_tree)?;
     reserve_at(first, more, at)?;
     Ok(at)
 }
@@ -88,7 +88,8 @@ fn split_at<T: Named>(
     ensures pieced { IsPieced T.name_of T.is_tree_of (λ p. p.items) first.new.items more.new.items }
     ensures unchanged { joined (λ p. p.items) first.new.items more.new.items
         ≡ joined (λ p. p.items) first.old.items more.old.items }
-    ensures at { IfOk result (λ place. place ≡ pieces_at_most (item_key T.name_of T.is_tree_of)
+    ensures at { IfOk result (λ position. position
+        ≡ pieces_at_most (item_key T.name_of T.is_tree_of)
         (key_of name.now is_tree) (λ p. p.items) more.new.items) }
     ensures capacity { vec_capacity first.old ≤ vec_capacity first.new }
 {

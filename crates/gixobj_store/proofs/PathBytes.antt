@@ -20,25 +20,26 @@ unfolding path_names
 are_names_of_path path = ((split_at_each_exists slash path).0, (split_at_each_exists slash path).1, refl)
 
 pub path_names_unique : (path : List ℕ) (a b : List Name) → AreNamesOf path a → AreNamesOf path b → a ≡ b
-path_names_unique path a b (parts, cut, is) (others, cut', is') = is ∙ ap named_parts (split_at_each_unique slash path parts others cut cut') ∙ sym is'
+path_names_unique path a b (parts, has_split, is) (others, has_split', is') = is
+    ∙ ap named_parts (split_at_each_unique slash path parts others has_split has_split') ∙ sym is'
 
 -- ---- what precedes the names
 
 split_at_each_cons : (path part following : List ℕ) (parts : List (List ℕ)) → SplitsAt slash path part following → IsSplitAtEach slash following parts
     → IsSplitAtEach slash path (part ∷ parts)
-split_at_each_cons path part following parts splits cut = is_split_at_each_append slash path following (part ∷ []) parts
-    (are_prefixes_snoc slash path path [] part following (are_prefixes_nil slash path) splits) cut
+split_at_each_cons path part following parts splits has_split = is_split_at_each_append slash path following (part ∷ []) parts
+    (are_prefixes_snoc slash path path [] part following (are_prefixes_nil slash path) splits) has_split
 
 -- a slash before a path adds no name
 pub are_names_after_slash : (path following : List ℕ) (names : List Name) → path ≡ slash ∷ following → AreNamesOf following names → AreNamesOf path names
-are_names_after_slash path following names is (parts, cut, are) =
-    ([] ∷ parts, split_at_each_cons path [] following parts (record { joined = is; first = All-nil (λ (it : ℕ). it ≢ slash) }) cut, are)
+are_names_after_slash path following names is (parts, has_split, are) =
+    ([] ∷ parts, split_at_each_cons path [] following parts (record { joined = is; first = All-nil (λ (it : ℕ). it ≢ slash) }) has_split, are)
 
 are_names_of_cons : (path name following : List ℕ) (names : List Name) → name ≢ [] → SplitsAt slash path name following → AreNamesOf following names
     → AreNamesOf path (name ∷ names)
 are_names_of_cons path [] following names some splits are = absurd (some refl)
-are_names_of_cons path (byte ∷ name) following names some splits (parts, cut, are) =
-    ((byte ∷ name) ∷ parts, split_at_each_cons path (byte ∷ name) following parts splits cut, ap (λ (it : List Name). (byte ∷ name) ∷ it) are)
+are_names_of_cons path (byte ∷ name) following names some splits (parts, has_split, are) =
+    ((byte ∷ name) ∷ parts, split_at_each_cons path (byte ∷ name) following parts splits has_split, ap (λ (it : List Name). (byte ∷ name) ∷ it) are)
 
 are_names_of_one_part : (path : List ℕ) → IsByteFree slash path → AreNamesOf path (named_parts (path ∷ []))
 are_names_of_one_part path free = (path ∷ [], is_split_at_each_of_byte_free slash path free, refl)
@@ -53,10 +54,10 @@ are_names_of_one_name (byte ∷ path) some free = are_names_of_one_part (byte �
 -- a path that is not empty and has no slash before it has a name
 names_ne_nil_of_path : (path : List ℕ) (names : List Name) → ((rest : List ℕ) → path ≢ slash ∷ rest) → AreNamesOf path names → path ≢ [] → names ≢ []
 names_ne_nil_of_path [] names other are some none = some refl
-names_ne_nil_of_path (byte ∷ path) names other ([], cut, is) some none = cc (cut.joined)
-names_ne_nil_of_path (byte ∷ path) names other ([] ∷ parts, cut, is) some none = let here : byte ≡ slash = cc (cut.joined) in
+names_ne_nil_of_path (byte ∷ path) names other ([], has_split, is) some none = cc (has_split.joined)
+names_ne_nil_of_path (byte ∷ path) names other ([] ∷ parts, has_split, is) some none = let here : byte ≡ slash = cc (has_split.joined) in
     other path (ap (λ (it : ℕ). it ∷ path) here)
-names_ne_nil_of_path (byte ∷ path) names other ((first ∷ part) ∷ parts, cut, is) some none = cc (sym is ∙ none)
+names_ne_nil_of_path (byte ∷ path) names other ((first ∷ part) ∷ parts, has_split, is) some none = cc (sym is ∙ none)
 
 -- ---- the first name
 

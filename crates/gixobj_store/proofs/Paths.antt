@@ -25,8 +25,8 @@ use Rattle.gixobj_store.specs.declared.find.Error.TheVariants.{OutOfMemory, Stor
 
 -- this entry of the name comes after entries of other names
 abbrev pub Comes : hash.Kind → List ℕ → List EntryView → Name → EntryView → Type 0
-Comes kind input passed name e = (here rest : List ℕ) × runs.Passes (EntryStep kind) tt input passed tt here × BeginsWithEntry kind here e rest
-    × runs.HasNone (IsNamed name) passed × IsNamed name e
+Comes kind input consumed name e = (here rest : List ℕ) × runs.BeginsWithPieces (EntryStep kind) tt input consumed tt here × BeginsWithEntry kind here e rest
+    × runs.HasNone (IsNamed name) consumed × IsNamed name e
 
 has_none_named_head : (name : Name) (x : EntryView) (others : List EntryView) → runs.HasNone (IsNamed name) (x ∷ others) → ¬ IsNamed name x
 has_none_named_head name x others none = All-head (λ (it : EntryView). ¬ IsNamed name it) x others none
@@ -34,7 +34,7 @@ has_none_named_head name x others none = All-head (λ (it : EntryView). ¬ IsNam
 has_none_named_tail : (name : Name) (x : EntryView) (others : List EntryView) → runs.HasNone (IsNamed name) (x ∷ others) → runs.HasNone (IsNamed name) others
 has_none_named_tail name x others none = All-tail (λ (it : EntryView). ¬ IsNamed name it) x others none
 
-comes_unique : (kind : hash.Kind) (input : List ℕ) (name : Name) (passed others : List EntryView) (e it : EntryView) → Comes kind input passed name e
+comes_unique : (kind : hash.Kind) (input : List ℕ) (name : Name) (consumed others : List EntryView) (e it : EntryView) → Comes kind input consumed name e
     → Comes kind input others name it → e ≡ it
 comes_unique kind input name [] [] e it (here, rest, (_, same), has, none, is) (here', rest', (_, same'), has', none', is') =
     (entry_unique kind here e it rest rest' has (subst (λ (at : List ℕ). BeginsWithEntry kind at it rest') (sym same' ∙ same) has')).0
@@ -42,65 +42,72 @@ comes_unique kind input name [] (x ∷ others) e it (here, rest, (_, same), has,
     absurd (has_none_named_head name x others none'
     (sym (ap (λ (y : EntryView). y.name)
     (entry_unique kind input e x rest after (subst (λ (at : List ℕ). BeginsWithEntry kind at e rest) (sym same) has) first).0) ∙ is))
-comes_unique kind input name (x ∷ passed) [] e it (here, rest, (_, after, first, on), has, none, is) (here', rest', (_, same'), has', none', is') =
-    absurd (has_none_named_head name x passed none
+comes_unique kind input name (x ∷ consumed) [] e it (here, rest, (_, after, first, on), has, none, is) (here', rest', (_, same'), has', none', is') =
+    absurd (has_none_named_head name x consumed none
     (sym (ap (λ (y : EntryView). y.name)
     (entry_unique kind input it x rest' after (subst (λ (at : List ℕ). BeginsWithEntry kind at it rest') (sym same') has') first).0) ∙ is'))
-comes_unique kind input name (x ∷ passed) (y ∷ others) e it (here, rest, (_, after, first, on), has, none, is)
+comes_unique kind input name (x ∷ consumed) (y ∷ others) e it (here, rest, (_, after, first, on), has, none, is)
     (here', rest', (_, after', first', on'), has', none', is') =
     let (same_entry, same_rest) = entry_unique kind input x y after after' first first' in
-    comes_unique kind after name passed others e it (here, rest, on, has, has_none_named_tail name x passed none, is) (
+    comes_unique kind after name consumed others e it (here, rest, on, has, has_none_named_tail name x consumed none, is) (
       here',
       rest',
-      subst (λ (at : List ℕ). runs.Passes (EntryStep kind) tt at others tt here') (sym same_rest) on',
+      subst (λ (at : List ℕ). runs.BeginsWithPieces (EntryStep kind) tt at others tt here') (sym same_rest) on',
       has',
       has_none_named_tail name y others none',
       is',
     )
 
-comes_of_has_first_named : (kind : hash.Kind) (input : List ℕ) (name : Name) (e : EntryView) → HasFirstNamed kind input name e → (passed : List EntryView)
-    × Comes kind input passed name e
-comes_of_has_first_named kind input name e ((_, _, here, rest, (passed, on, none), has), is) = (passed, (here, rest, on, has, none, is))
+comes_of_has_first_named : (kind : hash.Kind) (input : List ℕ) (name : Name) (e : EntryView) → HasFirstNamed kind input name e → (consumed : List EntryView)
+    × Comes kind input consumed name e
+comes_of_has_first_named kind input name e ((_, _, here, rest, (consumed, on, none), has), is) = (consumed, (here, rest, on, has, none, is))
 
 pub first_named_unique : (kind : hash.Kind) (input : List ℕ) (name : Name) (e it : EntryView) → HasFirstNamed kind input name e
     → HasFirstNamed kind input name it
     → e ≡ it
 first_named_unique kind input name e it first first' =
-    let (passed, comes) = comes_of_has_first_named kind input name e first in
+    let (consumed, comes) = comes_of_has_first_named kind input name e first in
     let (others, comes') = comes_of_has_first_named kind input name it first' in
-    comes_unique kind input name passed others e it comes comes'
+    comes_unique kind input name consumed others e it comes comes'
 
 -- ---- a run without an entry of the name finds none
 
 no_entry_in_nil : (kind : hash.Kind) (e : EntryView) (rest : List ℕ) → ¬ BeginsWithEntry kind [] e rest
 no_entry_in_nil kind e rest has = let less = entry_rest_len_lt kind [] e rest has in omega (arith, less)
 
-not_comes_of_has_none : (kind : hash.Kind) (input : List ℕ) (name : Name) (seen passed : List EntryView) (ending : Ending) (e : EntryView)
-    → YieldsEntries kind input seen ending → runs.HasNone (IsNamed name) seen → ¬ Comes kind input passed name e
+not_comes_of_has_none : (kind : hash.Kind) (input : List ℕ) (name : Name) (seen consumed : List EntryView) (ending : Ending) (e : EntryView)
+    → YieldsEntries kind input seen ending → runs.HasNone (IsNamed name) seen → ¬ Comes kind input consumed name e
 not_comes_of_has_none kind input name seen [] ending e (yields_end _) lacks (here, rest, (_, same), has, none, is) =
     no_entry_in_nil kind e rest (subst (λ (at : List ℕ). BeginsWithEntry kind at e rest) (sym same) has)
-not_comes_of_has_none kind input name seen (x ∷ passed) ending e (yields_end _) lacks (here, rest, (_, after, first, on), has, none, is) =
+not_comes_of_has_none kind input name seen (x ∷ consumed) ending e (yields_end _) lacks (here, rest, (_, after, first, on), has, none, is) =
     no_entry_in_nil kind x after first
 not_comes_of_has_none kind input name seen [] ending e (yields_error _ _ some nothing) lacks (here, rest, (_, same), has, none, is) =
     nothing e tt rest (subst (λ (at : List ℕ). BeginsWithEntry kind at e rest) (sym same) has)
-not_comes_of_has_none kind input name seen (x ∷ passed) ending e (yields_error _ _ some nothing) lacks (here, rest, (_, after, first, on), has, none, is) =
+not_comes_of_has_none kind input name seen (x ∷ consumed) ending e (yields_error _ _ some nothing) lacks (here, rest, (_, after, first, on), has, none, is) =
     nothing x tt after first
 not_comes_of_has_none kind input name seen [] ending e (yields_piece _ _ _ following y more _ first' seen') lacks (here, rest, (_, same), has, none, is) =
     has_none_named_head name y more lacks
     (sym (ap (λ (y : EntryView). y.name)
     (entry_unique kind input e y rest following (subst (λ (at : List ℕ). BeginsWithEntry kind at e rest) (sym same) has) first').0) ∙ is)
-not_comes_of_has_none kind input name seen (x ∷ passed) ending e (yields_piece _ _ _ following y more _ first' seen') lacks
+not_comes_of_has_none kind input name seen (x ∷ consumed) ending e (yields_piece _ _ _ following y more _ first' seen') lacks
     (here, rest, (_, after, first, on), has, none, is) =
     let same_rest = (entry_unique kind input x y after following first first').1 in
-    not_comes_of_has_none kind following name more passed ending e seen' (has_none_named_tail name y more lacks)
-    (here, rest, subst (λ (at : List ℕ). runs.Passes (EntryStep kind) tt at passed tt here) same_rest on, has, has_none_named_tail name x passed none, is)
+    not_comes_of_has_none kind following name more consumed ending e seen' (has_none_named_tail name y more lacks) (
+      here,
+      rest,
+      subst (λ (at : List ℕ). runs.BeginsWithPieces (EntryStep kind) tt at consumed tt here) same_rest on,
+      has,
+      has_none_named_tail name x consumed
+          none,
+      is,
+    )
 
 pub no_entry_named_of_search : (kind : hash.Kind) (input : List ℕ) (name : Name) (ending : Ending)
     → runs.YieldsNone (EntryStep kind) (IsNamed name) tt input ending
     → HasNoEntryNamed kind input name
 no_entry_named_of_search kind input name ending (seen, yields, lacks) e first =
-    let (passed, comes) = comes_of_has_first_named kind input name e first in
-    not_comes_of_has_none kind input name seen passed ending e yields lacks comes
+    let (consumed, comes) = comes_of_has_first_named kind input name e first in
+    not_comes_of_has_none kind input name seen consumed ending e yields lacks comes
 
 -- ---- paths
 

@@ -1,4 +1,5 @@
--- One step of a path lookup into a tree; used for `next_entry`, `lookup_entry` and `lookup_entry_by_path`.
+-- A lookup of a path finds the entry of the first name, and continues with the others in the object that it names; used
+-- for `next_entry`, `lookup_entry` and `lookup_entry_by_path`.
 use Rattle.std.proofs.Common.{◌≡◌, ◌≢◌, ◌<◌, ◌∷◌, ℕ, List, [], ap, arith, drop, length, map, nat_eq, refl, subst, sym, ⊎_elim, ◌∙◌}
 use Rattle.std.proofs.Math.Dec.{eqb-suc-zero}
 use Rattle.std.proofs.lemmas.List.{drop-map}

@@ -2,7 +2,7 @@
 use Rattle.std.proofs.Common.{◌++◌, ◌∷◌, List, [], ℕ, Ok, Err, Some, None, ap, refl, subst, sym, ◌∙◌}
 use Rattle.std.proofs.lemmas.List.{append-nil, append_assoc}
 use Rattle.std.specs.Prelude.{⊤, Option, Result}
-use Rattle.gixobj_fields.proofs.Runs.{passes_one, yields_passed}
+use Rattle.gixobj_fields.proofs.Runs.{begins_with_pieces_snoc, yields_of_begins_with_pieces}
 use Rattle.gixobj_fields.specs.Iterators.{ReaderState}
 use Rattle.gixobj_fields.specs.Runs.{broken, complete, yields_end, yields_error}
 use Rattle.gixobj_hash.specs.declared.decode.Error.{Error}
@@ -21,18 +21,19 @@ has_consumed_nil kind content reader start = ((refl, sym (ap (λ (it : ReaderSta
 pub has_consumed_snoc : (kind : Kind) (content : List ℕ) (entries : List EntryView) (at after : TreeRefIter) (entry : EntryRef)
     → HasConsumedEntries kind content entries at → NextEntry at (Some (Ok entry)) after
     → HasConsumedEntries kind content (entries ++ entry_view entry ∷ []) after
-has_consumed_snoc kind content entries at after entry (passed, same_kind) (has, kept, such) =
+has_consumed_snoc kind content entries at after entry (consumed, same_kind) (has, kept, such) =
     let here = subst (λ (it : Kind). EntryStep it tt (tree_reader_state at).bytes (entry_view entry) tt (tree_reader_state after).bytes) same_kind has in (
-      passes_one (EntryStep kind) tt tt tt content (tree_reader_state at).bytes (tree_reader_state after).bytes entries (entry_view entry) passed here,
+      begins_with_pieces_snoc (EntryStep kind) tt tt tt content (tree_reader_state at).bytes (tree_reader_state after).bytes entries
+          (entry_view entry) consumed here,
       kept
           ∙ same_kind,
     )
 
 pub yields_entries_complete : (kind : Kind) (content : List ℕ) (entries : List EntryView) (at after : TreeRefIter) → HasConsumedEntries kind content entries at
     → NextEntry at None after → YieldsEntries kind content entries complete
-yields_entries_complete kind content entries at after (passed, same_kind) gives =
+yields_entries_complete kind content entries at after (consumed, same_kind) gives =
     let end : YieldsEntries kind (tree_reader_state at).bytes [] complete = rw gives.0 (yields_end tt) in
-    yields_passed (EntryStep kind) tt tt content (tree_reader_state at).bytes entries complete passed end
+    yields_of_begins_with_pieces (EntryStep kind) tt tt content (tree_reader_state at).bytes entries complete consumed end
 
 next_entry_error_is_malformed : (at after : TreeRefIter) (error : Error) → NextEntry at (Some (Err error)) after → NextEntry at (Some (Err Malformed)) after
 next_entry_error_is_malformed at after Malformed gives = gives
@@ -41,12 +42,12 @@ next_entry_error_is_malformed at after OutOfMemory gives = absurd gives.1
 pub yields_entries_broken : (kind : Kind) (content : List ℕ) (entries : List EntryView) (at after : TreeRefIter) (error : Error)
     → HasConsumedEntries kind content entries at
     → NextEntry at (Some (Err error)) after → YieldsEntries kind content entries broken
-yields_entries_broken kind content entries at after error (passed, same_kind) gives =
+yields_entries_broken kind content entries at after error (consumed, same_kind) gives =
     let rejected = next_entry_error_is_malformed at after error gives in
     let none = subst (λ (it : Kind). (e : EntryView) (following : ⊤) (rest : List ℕ) → EntryStep it tt (tree_reader_state at).bytes e following rest
     → ⊥) same_kind rejected.1 in
     let stop : YieldsEntries kind (tree_reader_state at).bytes [] broken = yields_error tt (tree_reader_state at).bytes rejected.0 none in
-    yields_passed (EntryStep kind) tt tt content (tree_reader_state at).bytes entries broken passed stop
+    yields_of_begins_with_pieces (EntryStep kind) tt tt content (tree_reader_state at).bytes entries broken consumed stop
 
 -- ---- the remaining bytes are a suffix
 

@@ -37,7 +37,7 @@ NextEntry = NextPiece tree_reader_state EntryStep NoEntryAllocates entry_view (�
 
 -- an iterator over this content has consumed these entries
 abbrev pub HasConsumedEntries : Kind → List ℕ → List EntryView → TreeRefIter → Type 0
-HasConsumedEntries kind content entries reader = runs.Passes (EntryStep kind) tt content entries tt
+HasConsumedEntries kind content entries reader = runs.BeginsWithPieces (EntryStep kind) tt content entries tt
     (remaining_tree_bytes reader) × ((tree_reader_state reader).kind ≡ kind)
 
 -- the content ends with this tail

@@ -60,7 +60,7 @@ searched_in objects first entries = first ∷ map (λ e. named objects e.id) ent
 
 -- the entries of a path: for each name the first entry of this name in its object
 abbrev pub IsPath : Objects → Option StoredObject → List Name → List EntryView → Type 0
-IsPath objects first names entries = AllZip (λ place e. FoundIn place.0 place.1 e)
+IsPath objects first names entries = AllZip (λ lookup e. FoundIn lookup.0 lookup.1 e)
     (zip (searched_in objects first entries) names) entries
 
 -- the names lead to this entry

@@ -29,8 +29,8 @@ parting_unique bytes m n s t (signed _ message signature format joined is) (sign
 parting_unique bytes m n s t (signed _ message signature format joined is) (signed _ message' signature' format' joined' is') =
     let same = (marker_place_unique bytes (length message + 1) (length message' + 1) format format' is is').0 in
     let long : length message ≡ length message' = omega (arith, same) in
-    let cut = append_split_unique message message' (10 ∷ signature) (10 ∷ signature') long (sym joined ∙ joined') in
-    (cut.0, ap Some (cc cut.1))
+    let parts = append_split_unique message message' (10 ∷ signature) (10 ∷ signature') long (sym joined ∙ joined') in
+    (parts.0, ap Some (cc parts.1))
 
 -- ---- bodies
 

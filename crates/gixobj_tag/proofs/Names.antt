@@ -37,12 +37,12 @@ ends_with_iff bytes end r is =
     )
 
 holds_of_occurs : (bytes inner : List ℕ) → Occurs bytes inner → Holds inner bytes
-holds_of_occurs bytes inner (place, occurs) =
-    let tail = at_from_reads 0 bytes inner place occurs.fits occurs.reads in (
-      take place bytes,
-      drop (place + length inner) bytes,
-      sym (take-append-drop place bytes) ∙ ap (λ (it : List ℕ). take place bytes ++ it) tail
-          ∙ sym (append_assoc (take place bytes) inner (drop (place + length inner) bytes)),
+holds_of_occurs bytes inner (position, occurs) =
+    let tail = at_from_reads 0 bytes inner position occurs.fits occurs.reads in (
+      take position bytes,
+      drop (position + length inner) bytes,
+      sym (take-append-drop position bytes) ∙ ap (λ (it : List ℕ). take position bytes ++ it) tail
+          ∙ sym (append_assoc (take position bytes) inner (drop (position + length inner) bytes)),
     )
 
 occurs_of_holds : (bytes inner : List ℕ) → Holds inner bytes → Occurs bytes inner
@@ -220,18 +220,18 @@ bad_slash_iff_doubled name outer first last r fails is other same ends yields =
 -- ---- the first fault
 
 -- the number of faults that are tested before this one
-abbrev place : RefNameFault → ℕ
-place fault.Empty = 0
-place fault.DotStart = 1
-place fault.LockSuffix = 2
-place fault.DoubleDot = 3
-place fault.AtBrace = 4
-place fault.Backslash = 5
-place fault.InvalidByte = 6
-place fault.BadSlash = 7
-place fault.DotEnd = 8
+abbrev position : RefNameFault → ℕ
+position fault.Empty = 0
+position fault.DotStart = 1
+position fault.LockSuffix = 2
+position fault.DoubleDot = 3
+position fault.AtBrace = 4
+position fault.Backslash = 5
+position fault.InvalidByte = 6
+position fault.BadSlash = 7
+position fault.DotEnd = 8
 
-faults_split_at_fault : (here : RefNameFault) → faults ≡ take (place here) faults ++ here ∷ drop (place here + 1) faults
+faults_split_at_fault : (here : RefNameFault) → faults ≡ take (position here) faults ++ here ∷ drop (position here + 1) faults
 faults_split_at_fault fault.Empty = refl
 faults_split_at_fault fault.DotStart = refl
 faults_split_at_fault fault.LockSuffix = refl
@@ -243,11 +243,11 @@ faults_split_at_fault fault.BadSlash = refl
 faults_split_at_fault fault.DotEnd = refl
 
 -- a fault that the name has, and before which it has none, is its first
-pub is_first_fault : (name : List ℕ) (here : RefNameFault) → AllByRecursion (λ it. ¬ HasFault it name) (take (place here) faults) → HasFault here name
+pub is_first_fault : (name : List ℕ) (here : RefNameFault) → AllByRecursion (λ it. ¬ HasFault it name) (take (position here) faults) → HasFault here name
     → IsFirstFault name here
 is_first_fault name here none has = record {
-  before = take (place here) faults;
-  after = drop (place here + 1) faults;
+  before = take (position here) faults;
+  after = drop (position here + 1) faults;
   joined = faults_split_at_fault here;
   none = All-from_recursion (λ it. ¬ HasFault it name) _ none;
   here = has;

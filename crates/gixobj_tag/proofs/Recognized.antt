@@ -7,8 +7,8 @@ use Rattle.std.proofs.lemmas.Slice.Eq.{starts_is}
 use Rattle.std.specs.List.{starts_with}
 use Rattle.std.specs.Prelude.{codes, nat_eq}
 use Rattle.gixobj_hash.specs.declared.hash.kind.Kind as hash
-use Rattle.gixobj_text.proofs.MarkerPlaces.{begins_with_marker_at_place, marker_place_le_len, starts_line_at_place}
-use Rattle.gixobj_text.specs.Markers.{BeginsWithMarker, BeginsWithNoMarker, IsMarkerOf, IsMarkerPlace, MarksPlace, StartsLine, pgp_message, pgp_signature, signed_message, ssh_signature}
+use Rattle.gixobj_text.proofs.MarkerPlaces.{begins_with_marker_at_position, marker_place_le_len, starts_line_at_marker}
+use Rattle.gixobj_text.specs.Markers.{BeginsWithMarker, BeginsWithNoMarker, IsMarkerOf, IsMarkerPlace, HasMarkerAt, StartsLine, pgp_message, pgp_signature, signed_message, ssh_signature}
 use Rattle.gixobj_text.specs.declared.signature.Format.{Format}
 use Rattle.gixobj_line.specs.TagPrefix.{IsTagBody, IsTag}
 use Rattle.gixobj_tokens.proofs.TagBodies.{is_body_after_newline}
@@ -97,58 +97,59 @@ starts_line_or_not (byte ∷ next ∷ rest) = starts_line_cons_or_not byte next 
 -- ---- a marker at a position, or none
 
 abbrev MarkedOrNot : List ℕ → ℕ → Type 0
-MarkedOrNot bytes place = ((format : Format) × MarksPlace bytes place format) ⊎ ((format : Format) → ¬ MarksPlace bytes place format)
+MarkedOrNot bytes position = ((format : Format) × HasMarkerAt bytes position format) ⊎ ((format : Format) → ¬ HasMarkerAt bytes position format)
 
-marked_or_not_of_parts : (bytes : List ℕ) (place : ℕ) → place ≤ length bytes → StartsLine (take place bytes) ⊎ ¬ StartsLine (take place bytes)
-    → ((format : Format) × BeginsWithMarker format (drop place bytes)) ⊎ BeginsWithNoMarker (drop place bytes)
-    → MarkedOrNot bytes place
-marked_or_not_of_parts bytes place within (inl starts) (inl (format, marked)) =
+marked_or_not_of_parts : (bytes : List ℕ) (position : ℕ) → position ≤ length bytes → StartsLine (take position bytes) ⊎ ¬ StartsLine (take position bytes)
+    → ((format : Format) × BeginsWithMarker format (drop position bytes)) ⊎ BeginsWithNoMarker (drop position bytes)
+    → MarkedOrNot bytes position
+marked_or_not_of_parts bytes position within (inl starts) (inl (format, marked)) =
     inl (
       format,
       record {
-        prefix = take place bytes;
-        rest = drop place bytes;
-        joined = sym (take-append-drop place bytes);
-        as_long = length-take-le place bytes within;
+        prefix = take position bytes;
+        rest = drop position bytes;
+        joined = sym (take-append-drop position bytes);
+        as_long = length-take-le position bytes within;
         starts = starts;
         marked = marked;
       },
     )
-marked_or_not_of_parts bytes place within (inr bad) marked = inr (λ format it. bad (starts_line_at_place bytes place format it))
-marked_or_not_of_parts bytes place within (inl starts) (inr none) = inr (λ format it. none format (begins_with_marker_at_place bytes place format it))
+marked_or_not_of_parts bytes position within (inr bad) marked = inr (λ format it. bad (starts_line_at_marker bytes position format it))
+marked_or_not_of_parts bytes position within (inl starts) (inr none) = inr (λ format it. none format (begins_with_marker_at_position bytes position format it))
 
-marked_or_not : (bytes : List ℕ) (place : ℕ) → place ≤ length bytes → MarkedOrNot bytes place
-marked_or_not bytes place within = marked_or_not_of_parts bytes place within (starts_line_or_not (take place bytes)) (marker_or_none (drop place bytes))
+marked_or_not : (bytes : List ℕ) (position : ℕ) → position ≤ length bytes → MarkedOrNot bytes position
+marked_or_not bytes position within = marked_or_not_of_parts bytes position within (starts_line_or_not (take position bytes))
+    (marker_or_none (drop position bytes))
 
 -- the last marked position before this end, or none
 abbrev LastBefore : List ℕ → ℕ → Type 0
 LastBefore bytes end =
-    ((place : ℕ) × (format : Format) × MarksPlace bytes place format
-    × ((other : ℕ) (format' : Format) → MarksPlace bytes other format' → other < end → other ≤ place))
-    ⊎ ((place : ℕ) (format : Format) → MarksPlace bytes place format → place < end → ⊥)
+    ((position : ℕ) × (format : Format) × HasMarkerAt bytes position format
+    × ((other : ℕ) (format' : Format) → HasMarkerAt bytes other format' → other < end → other ≤ position))
+    ⊎ ((position : ℕ) (format : Format) → HasMarkerAt bytes position format → position < end → ⊥)
 
 last_before_succ : (bytes : List ℕ) (end : ℕ) → MarkedOrNot bytes end → LastBefore bytes end → LastBefore bytes (suc end)
 last_before_succ bytes end (inl (format, here)) before = inl (end, format, here, λ other format' there within. omega (arith, within))
-last_before_succ bytes end (inr none) (inl (place, format, here, last)) = inl
-    (place, format, here, λ other format' there within. earlier other format' there (split other end within))
+last_before_succ bytes end (inr none) (inl (position, format, here, last)) = inl
+    (position, format, here, λ other format' there within. earlier other format' there (split other end within))
   where
     split : (other end : ℕ) → other < suc end → (other < end) ⊎ (other ≡ end)
     split other end within = elim (eqb_tells other end) [ inl it ↦ inr it.1 | inr it ↦ inl (omega (arith, within, it.1)) ]
 
-    earlier : (other : ℕ) (format' : Format) → MarksPlace bytes other format' → (other < end) ⊎ (other ≡ end) → other ≤ place
+    earlier : (other : ℕ) (format' : Format) → HasMarkerAt bytes other format' → (other < end) ⊎ (other ≡ end) → other ≤ position
     earlier other format' there (inl within) = last other format' there within
-    earlier other format' there (inr same) = absurd (none format' (subst (λ (it : ℕ). MarksPlace bytes it format') same there))
-last_before_succ bytes end (inr none) (inr nowhere) = inr (λ place format there within. never place format there (split place end within))
+    earlier other format' there (inr same) = absurd (none format' (subst (λ (it : ℕ). HasMarkerAt bytes it format') same there))
+last_before_succ bytes end (inr none) (inr nowhere) = inr (λ position format there within. never position format there (split position end within))
   where
     split : (other end : ℕ) → other < suc end → (other < end) ⊎ (other ≡ end)
     split other end within = elim (eqb_tells other end) [ inl it ↦ inr it.1 | inr it ↦ inl (omega (arith, within, it.1)) ]
 
-    never : (place : ℕ) (format : Format) → MarksPlace bytes place format → (place < end) ⊎ (place ≡ end) → ⊥
-    never place format there (inl within) = nowhere place format there within
-    never place format there (inr same) = none format (subst (λ (it : ℕ). MarksPlace bytes it format) same there)
+    never : (position : ℕ) (format : Format) → HasMarkerAt bytes position format → (position < end) ⊎ (position ≡ end) → ⊥
+    never position format there (inl within) = nowhere position format there within
+    never position format there (inr same) = none format (subst (λ (it : ℕ). HasMarkerAt bytes it format) same there)
 
 last_before_exists : (bytes : List ℕ) (end : ℕ) → end ≤ suc (length bytes) → LastBefore bytes end
-last_before_exists bytes zero within = inr (λ place format there no. omega (arith, no))
+last_before_exists bytes zero within = inr (λ position format there no. omega (arith, no))
 last_before_exists bytes (suc end) within = last_before_succ bytes end (marked_or_not bytes end (omega (arith, within)))
     (last_before_exists bytes end (omega (arith, within)))
 
@@ -157,40 +158,40 @@ last_before_exists bytes (suc end) within = last_before_succ bytes end (marked_o
 abbrev Parts : List ℕ → Type 0
 Parts bytes = (message : List ℕ) × (signature : Option (List ℕ)) × IsParted bytes message signature
 
-parts_after_lines : (bytes lines : List ℕ) (place : ℕ) (format : Format) → (is : IsMarkerPlace bytes place format) → is.here.prefix ≡ lines ++ 10 ∷ []
+parts_after_lines : (bytes lines : List ℕ) (position : ℕ) (format : Format) → (is : IsMarkerPlace bytes position format) → is.here.prefix ≡ lines ++ 10 ∷ []
     → Parts bytes
-parts_after_lines bytes lines place format is ends =
+parts_after_lines bytes lines position format is ends =
     let joined : bytes ≡ lines ++ 10 ∷ is.here.rest = is.here.joined ∙ ap (λ (it : List ℕ). it ++ is.here.rest) ends
     ∙ append_assoc lines (10 ∷ []) is.here.rest in
-    let at : place ≡ length lines + 1 = sym is.here.as_long ∙ ap length ends ∙ length-append lines (10 ∷ []) in
+    let at : position ≡ length lines + 1 = sym is.here.as_long ∙ ap length ends ∙ length-append lines (10 ∷ []) in
     (lines, Some is.here.rest, signed bytes lines is.here.rest format joined (subst (λ (it : ℕ). IsMarkerPlace bytes it format) at is))
 
-parts_at_start : (bytes : List ℕ) (place : ℕ) (format : Format) → (is : IsMarkerPlace bytes place format) → is.here.prefix ≡ [] → Parts bytes
-parts_at_start bytes place format is none =
-    let at : place ≡ 0 = sym is.here.as_long ∙ ap length none in (
+parts_at_start : (bytes : List ℕ) (position : ℕ) (format : Format) → (is : IsMarkerPlace bytes position format) → is.here.prefix ≡ [] → Parts bytes
+parts_at_start bytes position format is none =
+    let at : position ≡ 0 = sym is.here.as_long ∙ ap length none in (
       [],
       Some bytes,
       signed_at_once bytes format
           (subst (λ (it : ℕ). IsMarkerPlace bytes it format) at is),
     )
 
-parts_of_starts_line : (bytes : List ℕ) (place : ℕ) (format : Format) → (is : IsMarkerPlace bytes place format) → StartsLine is.here.prefix → Parts bytes
-parts_of_starts_line bytes place format is (inl none) = parts_at_start bytes place format is none
-parts_of_starts_line bytes place format is (inr (lines, ends)) = parts_after_lines bytes lines place format is ends
+parts_of_starts_line : (bytes : List ℕ) (position : ℕ) (format : Format) → (is : IsMarkerPlace bytes position format) → StartsLine is.here.prefix → Parts bytes
+parts_of_starts_line bytes position format is (inl none) = parts_at_start bytes position format is none
+parts_of_starts_line bytes position format is (inr (lines, ends)) = parts_after_lines bytes lines position format is ends
 
 parts_of_last_before : (bytes : List ℕ) → LastBefore bytes (suc (length bytes)) → Parts bytes
-parts_of_last_before bytes (inl (place, format, here, last)) =
-    let is : IsMarkerPlace bytes place format = record {
+parts_of_last_before bytes (inl (position, format, here, last)) =
+    let is : IsMarkerPlace bytes position format = record {
       here = here;
       last = λ other format' there. last other format' there
           (omega (arith, marker_place_le_len bytes other format' there));
     } in
-    parts_of_starts_line bytes place format is here.starts
+    parts_of_starts_line bytes position format is here.starts
 parts_of_last_before bytes (inr nowhere) = (
   bytes,
   None,
   unsigned bytes
-      (λ place format there. nowhere place format there (omega (arith, marker_place_le_len bytes place format there))),
+      (λ position format there. nowhere position format there (omega (arith, marker_place_le_len bytes position format there))),
 )
 
 parts_exist : (bytes : List ℕ) → Parts bytes

@@ -35,10 +35,10 @@ pub is_signed_tag_of_signature : {S : Type 0} (runs : S → CallView → Answer 
     → payload ≡ encode_tag (owned_tag_lines without) ++ newline ∷ [] → RejectsNothing (IsOwnedTagError without)
     → (old new : S) (result : Result Tag Error)
     → IfOk result (GetsTagSignature runs options payload without old new) → IfOk result (IsSignedTag runs options tag old new)
-is_signed_tag_of_signature runs options tag without same payload content writable old new (Ok it) (bytes, went, lines) = record {
+is_signed_tag_of_signature runs options tag without same payload content writable old new (Ok it) (bytes, written_is, lines) = record {
   bytes = bytes;
   called = subst (λ (signs : List ℕ). CarriesOut runs (sign_plan (sign_options_view options) signs) old (signature bytes) new)
-      (content ∙ ap (λ (of : Tag). encode_tag (owned_tag_lines of) ++ newline ∷ []) same) went;
+      (content ∙ ap (λ (of : Tag). encode_tag (owned_tag_lines of) ++ newline ∷ []) same) written_is;
   lines = lines ∙ ap (λ (of : Tag). signed_as (Some bytes) (owned_tag_lines of)) same;
   writable = subst (λ (of : Tag). RejectsNothing (IsOwnedTagError of)) same writable;
 }

@@ -63,7 +63,7 @@ IsOneOfFive run = (trailer_count run ≡ 1) × (count_others false run ≡ 4)
 
 no_block_of_one_of_five : (run : List (List ℕ)) → IsOneOfFive run → ¬ IsTrailerBlock run
 no_block_of_one_of_five run five (inl (some, none)) = omega arith
-no_block_of_one_of_five run five (inr (known, few)) = omega arith
+no_block_of_one_of_five run five (inr (known, bound)) = omega arith
 
 -- the last run of `long` has one trailer and four other lines
 long_run_is_one_of_five : IsOneOfFive (parts_of (lines_of long)).run

@@ -4,7 +4,7 @@ use Rattle.std.specs.Prelude.{◌||◌, count_by, fold}
 use Rattle.gixobj_text.specs.Counting.{Counts, other_count_of}
 use Rattle.gixobj_text.specs.BodyLines.{is_indented, is_git_generated}
 use Rattle.gixobj_text.specs.TrailerBlocks.{counts_as_trailer, count_others}
-use Rattle.gixobj_text.specs.declared.commit.message.body.run.Run.{Run}
+use Rattle.gixobj_text.specs.declared.commit.message.body.line_counts.LineCounts.{LineCounts}
 use Rattle.gixobj_text.proofs.OneLine.{is_below_trailer_snoc, list_any_snoc, count_others_snoc}
 
 abbrev counted : (List ℕ → Bool) → List ℕ → ℕ
@@ -19,7 +19,7 @@ count_by_snoc : (p : List ℕ → Bool) (run : List (List ℕ)) (line : List ℕ
 count_by_snoc p run line = fold_count_snoc p 0 run line
 
 -- the counts after one more line are those of the longer run
-pub counts_snoc : (run : List (List ℕ)) (line : List ℕ) (old new : Run) → Counts run old
+pub counts_snoc : (run : List (List ℕ)) (line : List ℕ) (old new : LineCounts) → Counts run old
     → new.trailers ≡ old.trailers + cond (counts_as_trailer line) 1 0
     → new.others ≡ old.others + other_count_of old.above line
     → new.recognised ≡ (old.recognised || is_git_generated line)

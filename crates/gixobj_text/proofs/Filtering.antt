@@ -17,8 +17,8 @@ yields_snoc : (by : Filter) (before : Trailers) (skipped : List TrailerRef) (mid
     → passes_filter by (trailer_view trailer).token ≡ false → YieldsUnfiltered by before (skipped ++ trailer ∷ []) after
 yields_snoc by before [] middle after trailer same step other =
     (after, subst (λ (it : Trailers). NextTrailer it (Some (Ok trailer)) after) (sym same) step, other, refl)
-yields_snoc by before (one ∷ skipped) middle after trailer (next, first, passed, more) step other =
-    (next, first, passed, yields_snoc by next skipped middle after trailer more step other)
+yields_snoc by before (one ∷ skipped) middle after trailer (next, first, filter_answer, more) step other =
+    (next, first, filter_answer, yields_snoc by next skipped middle after trailer more step other)
 
 pub skips_unfiltered_step : (by : Filter) (before middle after : Trailers) (trailer : TrailerRef) → SkipsUnfiltered by before middle
     → NextTrailer middle (Some (Ok trailer)) after → passes_filter by (trailer_view trailer).token ≡ false → SkipsUnfiltered by before after

@@ -6,8 +6,8 @@ use Rattle.bstr.specs.Text.{line_len, lines_of}
 use Rattle.bstr.proofs.lemmas.LineLemmas.{line_len-at, line_len-bounds, line_len-none, lines-step}
 use Rattle.gixobj_text.specs.FirstLines.{IsFirstLine}
 
-pub line_len_at_newline : (bytes : List ℕ) (place : ℕ) → IsFirstByte (is_byte 10) bytes (Some place) → line_len bytes ≡ place + 1
-line_len_at_newline bytes place (none, here) = line_len-at bytes place none.high (eqb-true (slice_index bytes place) 10 here)
+pub line_len_at_newline : (bytes : List ℕ) (position : ℕ) → IsFirstByte (is_byte 10) bytes (Some position) → line_len bytes ≡ position + 1
+line_len_at_newline bytes position (none, here) = line_len-at bytes position none.high (eqb-true (slice_index bytes position) 10 here)
     (λ k below is. none.before k (omega arith) below (eq-eqb (slice_index bytes k) 10 is))
 
 pub line_len_of_newline_free : (bytes : List ℕ) → IsFirstByte (is_byte 10) bytes None → line_len bytes ≡ length bytes

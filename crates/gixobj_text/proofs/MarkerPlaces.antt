@@ -2,7 +2,7 @@
 use Rattle.std.proofs.Common.{◌≡◌, ◌≤◌, ℕ, List, ◌++◌, arith, ap, cond, drop, eqb, get_or, length, length-append, refl, subst, sym, take, ◌∙◌}
 use Rattle.std.proofs.Math.Seq.{drop-append_seam, take-append_seam}
 use Rattle.std.proofs.lemmas.List.{take-append-drop}
-use Rattle.gixobj_text.specs.Markers.{BeginsWithMarker, HasNoMarker, IsMarkerOf, IsMarkerPlace, MarksPlace, StartsLine, pgp_message, pgp_signature, signed_message, ssh_signature}
+use Rattle.gixobj_text.specs.Markers.{BeginsWithMarker, HasNoMarker, IsMarkerOf, IsMarkerPlace, HasMarkerAt, StartsLine, pgp_message, pgp_signature, signed_message, ssh_signature}
 use Rattle.gixobj_text.specs.declared.signature.Format.{Format}
 use Rattle.gixobj_text.specs.declared.signature.Format.TheVariants as format
 
@@ -25,44 +25,45 @@ format_of_marker_unique bytes f g first second =
 
 -- ---- one position
 
-take_at_marker_is_prefix : (bytes : List ℕ) (place : ℕ) (f : Format) → (here : MarksPlace bytes place f) → take place bytes ≡ here.prefix
-take_at_marker_is_prefix bytes place f here =
-    let cut : take (length here.prefix) bytes ≡ here.prefix = ap (take (length here.prefix)) here.joined ∙ take-append_seam here.prefix here.rest in
-    ap (λ (it : ℕ). take it bytes) (sym here.as_long) ∙ cut
+take_at_marker_is_prefix : (bytes : List ℕ) (position : ℕ) (f : Format) → (here : HasMarkerAt bytes position f) → take position bytes ≡ here.prefix
+take_at_marker_is_prefix bytes position f here =
+    let has_split : take (length here.prefix) bytes ≡ here.prefix = ap (take (length here.prefix)) here.joined ∙ take-append_seam here.prefix here.rest in
+    ap (λ (it : ℕ). take it bytes) (sym here.as_long) ∙ has_split
 
-drop_at_marker_is_rest : (bytes : List ℕ) (place : ℕ) (f : Format) → (here : MarksPlace bytes place f) → drop place bytes ≡ here.rest
-drop_at_marker_is_rest bytes place f here =
-    let cut : drop (length here.prefix) bytes ≡ here.rest = ap (drop (length here.prefix)) here.joined ∙ drop-append_seam here.prefix here.rest in
-    ap (λ (it : ℕ). drop it bytes) (sym here.as_long) ∙ cut
+drop_at_marker_is_rest : (bytes : List ℕ) (position : ℕ) (f : Format) → (here : HasMarkerAt bytes position f) → drop position bytes ≡ here.rest
+drop_at_marker_is_rest bytes position f here =
+    let has_split : drop (length here.prefix) bytes ≡ here.rest = ap (drop (length here.prefix)) here.joined ∙ drop-append_seam here.prefix here.rest in
+    ap (λ (it : ℕ). drop it bytes) (sym here.as_long) ∙ has_split
 
-pub begins_with_marker_at_place : (bytes : List ℕ) (place : ℕ) (f : Format) → MarksPlace bytes place f → BeginsWithMarker f (drop place bytes)
-begins_with_marker_at_place bytes place f here = subst (BeginsWithMarker f) (sym (drop_at_marker_is_rest bytes place f here)) here.marked
+pub begins_with_marker_at_position : (bytes : List ℕ) (position : ℕ) (f : Format) → HasMarkerAt bytes position f → BeginsWithMarker f (drop position bytes)
+begins_with_marker_at_position bytes position f here = subst (BeginsWithMarker f) (sym (drop_at_marker_is_rest bytes position f here)) here.marked
 
-pub starts_line_at_place : (bytes : List ℕ) (place : ℕ) (f : Format) → MarksPlace bytes place f → StartsLine (take place bytes)
-starts_line_at_place bytes place f here = subst StartsLine (sym (take_at_marker_is_prefix bytes place f here)) here.starts
+pub starts_line_at_marker : (bytes : List ℕ) (position : ℕ) (f : Format) → HasMarkerAt bytes position f → StartsLine (take position bytes)
+starts_line_at_marker bytes position f here = subst StartsLine (sym (take_at_marker_is_prefix bytes position f here)) here.starts
 
-pub marker_place_le_len : (bytes : List ℕ) (place : ℕ) (f : Format) → MarksPlace bytes place f → place ≤ length bytes
-marker_place_le_len bytes place f here = omega (arith, here.as_long, ap length here.joined, length-append here.prefix here.rest)
+pub marker_place_le_len : (bytes : List ℕ) (position : ℕ) (f : Format) → HasMarkerAt bytes position f → position ≤ length bytes
+marker_place_le_len bytes position f here = omega (arith, here.as_long, ap length here.joined, length-append here.prefix here.rest)
 
 pub marker_place_unique : (bytes : List ℕ) (a b : ℕ) (f g : Format) → IsMarkerPlace bytes a f → IsMarkerPlace bytes b g → (a ≡ b) × (f ≡ g)
 marker_place_unique bytes a b f g first second =
     let same : a ≡ b = omega (arith, second.last a f first.here, first.last b g second.here) in
     let P : ℕ → Type 0 = λ it. BeginsWithMarker g (drop it bytes) in (
       same,
-      format_of_marker_unique (drop a bytes) f g (begins_with_marker_at_place bytes a f first.here)
-          (subst P (sym same) (begins_with_marker_at_place bytes b g second.here)),
+      format_of_marker_unique (drop a bytes) f g (begins_with_marker_at_position bytes a f first.here)
+          (subst P (sym same) (begins_with_marker_at_position bytes b g second.here)),
     )
 
 pub no_marker_and_marker_place : (bytes : List ℕ) (a : ℕ) (f : Format) → IsMarkerPlace bytes a f → HasNoMarker bytes → ⊥
 no_marker_and_marker_place bytes a f is none = none a f is.here
 
 -- the parts at the position
-pub marker_place_splits : (bytes : List ℕ) (place : ℕ) (f : Format) → IsMarkerPlace bytes place f
-    → (bytes ≡ take place bytes ++ drop place bytes) × StartsLine (take place bytes) × BeginsWithMarker f (drop place bytes) × (place ≤ length bytes)
-marker_place_splits bytes place f is = (
-  sym (take-append-drop place bytes),
-  starts_line_at_place bytes place f is.here,
-  begins_with_marker_at_place bytes place f is.here,
+pub marker_place_splits : (bytes : List ℕ) (position : ℕ) (f : Format) → IsMarkerPlace bytes position f
+    → (bytes ≡ take position bytes ++ drop position bytes) × StartsLine (take position bytes) × BeginsWithMarker f (drop position bytes)
+    × (position ≤ length bytes)
+marker_place_splits bytes position f is = (
+  sym (take-append-drop position bytes),
+  starts_line_at_marker bytes position f is.here,
+  begins_with_marker_at_position bytes position f is.here,
   marker_place_le_len
-      bytes place f is.here,
+      bytes position f is.here,
 )

@@ -41,8 +41,8 @@ split_at_breaks_unique : (message title body title2 body2 : List ℕ) → IsSpli
     → (title ≡ title2)
     × (body ≡ body2)
 split_at_breaks_unique message title body title2 body2 one other =
-    let few : length title ≤ length title2 = one.minimum title2 body2 other.here in
-    let few2 : length title2 ≤ length title = other.minimum title body one.here in
+    let bound : length title ≤ length title2 = one.minimum title2 body2 other.here in
+    let other_bound : length title2 ≤ length title = other.minimum title body one.here in
     let prefixes = append_split_unique title title2 (one.here.first ++ one.here.second ++ body) (other.here.first ++ other.here.second ++ body2) (omega arith)
     (sym (has_breaks_append_assoc message title body one.here) ∙ has_breaks_append_assoc message title2 body2 other.here) in
     let bodies : Some body ≡ Some body2 =

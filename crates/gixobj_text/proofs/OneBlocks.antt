@@ -75,12 +75,12 @@ begins_trailer_append : (taken rest : Lines) → AreTrailers taken → (taken �
 begins_trailer_append [] rest trailers last = subst BeginsTrailer (sym (last refl)) tt
 begins_trailer_append (line ∷ taken) rest trailers last = trailers.0
 
-record IsCutSo (lines skipped taken rest : Lines) : Type 0 where
+record SplitsBlock (lines skipped taken rest : Lines) : Type 0 where
   skipped_eq : skipped ≡ skipped_of lines
   taken_eq : taken ≡ taken_of (after_skipped lines)
   rest_eq : rest ≡ after_taken (after_skipped lines)
 
-parts_of_block_of_lines : (lines skipped taken rest : Lines) → IsBlockOfLines lines skipped taken rest → IsCutSo lines skipped taken rest
+parts_of_block_of_lines : (lines skipped taken rest : Lines) → IsBlockOfLines lines skipped taken rest → SplitsBlock lines skipped taken rest
 parts_of_block_of_lines lines skipped taken rest it =
     let joined : lines ≡ skipped ++ (taken ++ rest) = it.split ∙ append_assoc skipped taken rest in
     let first = skipped_of_append skipped (taken ++ rest) it.message (begins_trailer_append taken rest it.trailers it.none) in

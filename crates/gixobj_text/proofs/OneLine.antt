@@ -1,5 +1,5 @@
--- One more line after lines: their last run, and the counts of a run; `Scans`, `Counted`, `LastRuns` and `Steps` use
--- these lemmas.
+-- One more line extends the last run, ends it or begins one, and adds to the counts of a run; `Scans`, `Counted`,
+-- `LastRuns` and `Steps` use these lemmas.
 use Rattle.std.proofs.Common.{◌++◌, ◌+◌, ◌∙◌, ◌∷◌, ◌≡◌, ◌≢◌, All, Bool, List, [], ap, append-nil, append_assoc, arith, cond, false, inr, refl, sym, true, ℕ}
 use Rattle.std.proofs.lemmas.List.Elements.{All-cons, All-head, All-nil, All-tail}
 use Rattle.std.specs.Prelude.{IsFalse, IsTrue, ◌||◌}

@@ -21,23 +21,24 @@ return_in_break_bytes : is_in break_bytes 13 ≡ true
 unfolding computing
 return_in_break_bytes = refl
 
-take_is_break_byte_free : (bytes : List ℕ) (place byte : ℕ) → is_in break_bytes byte ≡ true → place ≤ length bytes
-    → Nowhere (Passes (is_in break_bytes) bytes) 0 place
-    → IsByteFree byte (take place bytes)
-take_is_break_byte_free bytes place byte test within none =
-    All-from_get_or (λ it. it ≢ byte) (take place bytes) 0 (λ i below same.
-    let few : i < place = omega (arith, below, length-take-le place bytes within) in
-    none i (omega arith) few (ap (is_in break_bytes) (sym (get_or-take place bytes i 0 few) ∙ same) ∙ test))
+take_is_break_byte_free : (bytes : List ℕ) (position byte : ℕ) → is_in break_bytes byte ≡ true → position ≤ length bytes
+    → Nowhere (Passes (is_in break_bytes) bytes) 0 position
+    → IsByteFree byte (take position bytes)
+take_is_break_byte_free bytes position byte test within none =
+    All-from_get_or (λ it. it ≢ byte) (take position bytes) 0 (λ i below same.
+    let bound : i < position = omega (arith, below, length-take-le position bytes within) in
+    none i (omega arith) bound (ap (is_in break_bytes) (sym (get_or-take position bytes i 0 bound) ∙ same) ∙ test))
 
-pub is_from_break_at_place : (bytes : List ℕ) (place : ℕ) → IsFirstByte (is_in break_bytes) bytes (Some place) → IsFromBreak bytes (drop place bytes)
-is_from_break_at_place bytes place (none, here) =
-    let within : place ≤ length bytes = omega (arith, none.high) in
+pub is_from_break_at_position : (bytes : List ℕ) (position : ℕ) → IsFirstByte (is_in break_bytes) bytes (Some position)
+    → IsFromBreak bytes (drop position bytes)
+is_from_break_at_position bytes position (none, here) =
+    let within : position ≤ length bytes = omega (arith, none.high) in
     record {
-      plain = take place bytes;
-      joined = sym (take-append-drop place bytes);
-      no_newline = take_is_break_byte_free bytes place 10 newline_in_break_bytes within none.before;
-      no_return = take_is_break_byte_free bytes place 13 return_in_break_bytes within none.before;
-      begins = subst BeginsBreak (sym (drop_more bytes place 0 none.high)) here;
+      plain = take position bytes;
+      joined = sym (take-append-drop position bytes);
+      no_newline = take_is_break_byte_free bytes position 10 newline_in_break_bytes within none.before;
+      no_return = take_is_break_byte_free bytes position 13 return_in_break_bytes within none.before;
+      begins = subst BeginsBreak (sym (drop_more bytes position 0 none.high)) here;
     }
 
 take_len : (bytes : List ℕ) → take (length bytes) bytes ≡ bytes

@@ -1,13 +1,14 @@
--- Positions of the marker prefix, a newline and the prefix of all markers; the search `find` uses these lemmas.
+-- The last marker is at the last prefix of all markers that begins a line and names a format; the search `find` uses
+-- these lemmas.
 use Rattle.std.proofs.Common.{◌≡◌, ◌≢◌, ◌≤◌, ◌<◌, ◌+◌, ◌-◌, ℕ, List, [], ◌∷◌, ◌++◌, append_assoc, ap, arith, drop, get_or, inl, inr, length, length-append, refl, subst, suc, sym, take, ◌∙◌}
 use Rattle.std.proofs.lemmas.List.{get_or-append-add, get_or_append_left, get_or-take, length-take-le, take-append-drop, take_more, take_rest}
 use Rattle.std.proofs.lemmas.List.Elements.{All-get_or}
 use Rattle.std.specs.Prelude.{Some, None, codes}
 use Rattle.bstr.specs.Find.{OccursAt}
 use Rattle.gixobj_hash.proofs.Splits.{byte_free_of_all_pass}
-use Rattle.gixobj_text.proofs.MarkerPlaces.{begins_with_marker_at_place}
+use Rattle.gixobj_text.proofs.MarkerPlaces.{begins_with_marker_at_position}
 use Rattle.gixobj_text.specs.LineWalk.{HasMarkerPrefixesBefore, IsLastMarkerPrefix, marker_prefix}
-use Rattle.gixobj_text.specs.Markers.{BeginsWithMarker, BeginsWithNoMarker, HasNoMarker, IsMarkerOf, IsMarkerPlace, MarksPlace, StartsLine, pgp_message, pgp_signature, signed_message, ssh_signature}
+use Rattle.gixobj_text.specs.Markers.{BeginsWithMarker, BeginsWithNoMarker, HasNoMarker, IsMarkerOf, IsMarkerPlace, HasMarkerAt, StartsLine, pgp_message, pgp_signature, signed_message, ssh_signature}
 use Rattle.gixobj_text.specs.declared.signature.Format.{Format}
 
 -- ---- a marker after a newline has its prefix
@@ -28,13 +29,14 @@ occurs_at_append bytes lines rest joined =
 
 -- the prefix of a marker at this position begins one byte before it
 abbrev HasMarkerPrefix : List ℕ → ℕ → Type 0
-HasMarkerPrefix bytes place = (before : ℕ) × (place ≡ before + 1) × OccursAt bytes marker_prefix before
+HasMarkerPrefix bytes position = (before : ℕ) × (position ≡ before + 1) × OccursAt bytes marker_prefix before
 
-has_marker_prefix_append : (bytes head rest : List ℕ) (place : ℕ) (format : Format) → bytes ≡ head ++ rest → length head ≡ place → BeginsWithMarker format rest
-    → 0 < place
-    → StartsLine head → HasMarkerPrefix bytes place
-has_marker_prefix_append bytes head rest place format joined as_long marked positive (inl empty) = absurd (omega (arith, as_long, ap length empty, positive))
-has_marker_prefix_append bytes head rest place format joined as_long marked positive (inr (lines, ends)) =
+has_marker_prefix_append : (bytes head rest : List ℕ) (position : ℕ) (format : Format) → bytes ≡ head ++ rest → length head ≡ position
+    → BeginsWithMarker format rest
+    → 0 < position
+    → StartsLine head → HasMarkerPrefix bytes position
+has_marker_prefix_append bytes head rest position format joined as_long marked positive (inl empty) = absurd (omega (arith, as_long, ap length empty, positive))
+has_marker_prefix_append bytes head rest position format joined as_long marked positive (inr (lines, ends)) =
     let known = marker_begins_with_common_prefix format marked.marker marked.known in
     let content : List ℕ = known.0 ++ marked.rest in
     let begun : rest ≡ codes "-----BEGIN " ++ content = marked.joined ∙ ap (λ (it : List ℕ). it ++ marked.rest) known.1
@@ -43,28 +45,29 @@ has_marker_prefix_append bytes head rest place format joined as_long marked posi
     ∙ ap (λ (it : List ℕ). lines ++ 10 ∷ it) begun in
     (length lines, omega (arith, as_long, ap length ends, length-append lines (10 ∷ [])), occurs_at_append bytes lines content following)
 
-has_marker_prefix_of_marks_place : (bytes : List ℕ) (place : ℕ) (format : Format) → MarksPlace bytes place format → 0 < place → HasMarkerPrefix bytes place
-has_marker_prefix_of_marks_place bytes place format marks positive = has_marker_prefix_append bytes marks.prefix marks.rest place format marks.joined
+has_marker_prefix_of_has_marker_at : (bytes : List ℕ) (position : ℕ) (format : Format) → HasMarkerAt bytes position format → 0 < position
+    → HasMarkerPrefix bytes position
+has_marker_prefix_of_has_marker_at bytes position format marks positive = has_marker_prefix_append bytes marks.prefix marks.rest position format marks.joined
     marks.as_long marks.marked
     positive
     marks.starts
 
 -- ---- prefixes in the bytes before an end
 
-occurs_at_take : (bytes needle : List ℕ) (end place : ℕ) → OccursAt bytes needle place → end ≤ length bytes → place + length needle ≤ end
-    → OccursAt (take end bytes) needle place
-occurs_at_take bytes needle end place occurs within fits =
+occurs_at_take : (bytes needle : List ℕ) (end position : ℕ) → OccursAt bytes needle position → end ≤ length bytes → position + length needle ≤ end
+    → OccursAt (take end bytes) needle position
+occurs_at_take bytes needle end position occurs within fits =
     record {
       fits = omega (arith, fits, length-take-le end bytes within);
-      reads = λ j below. get_or-take end bytes (place + j) 0 (omega (arith, below, fits)) ∙ occurs.reads j below;
+      reads = λ j below. get_or-take end bytes (position + j) 0 (omega (arith, below, fits)) ∙ occurs.reads j below;
     }
 
-occurs_at_of_take : (bytes needle : List ℕ) (end place : ℕ) → OccursAt (take end bytes) needle place → end ≤ length bytes → OccursAt bytes needle place
-occurs_at_of_take bytes needle end place occurs within =
+occurs_at_of_take : (bytes needle : List ℕ) (end position : ℕ) → OccursAt (take end bytes) needle position → end ≤ length bytes → OccursAt bytes needle position
+occurs_at_of_take bytes needle end position occurs within =
     let long = length-take-le end bytes within in
     record {
       fits = omega (arith, occurs.fits, long, within);
-      reads = λ j below. sym (get_or-take end bytes (place + j) 0 (omega (arith, below, occurs.fits, long))) ∙ occurs.reads j below;
+      reads = λ j below. sym (get_or-take end bytes (position + j) 0 (omega (arith, below, occurs.fits, long))) ∙ occurs.reads j below;
     }
 
 -- ---- prefixes don't overlap, since only their first byte is a newline
@@ -94,11 +97,11 @@ bytes_from bytes start = take (length bytes - start) (drop start bytes)
 -- no marker is after the last prefix
 no_later_marker : (bytes : List ℕ) (end newline : ℕ) → end ≤ length bytes → HasMarkerPrefixesBefore bytes end
     → IsLastMarkerPrefix bytes end (Some newline)
-    → (place : ℕ) (format : Format) → MarksPlace bytes place format → place ≤ newline + 1
-no_later_marker bytes end newline within so_far last place format marks =
-    le_of_not_lt (newline + 1) place (λ later.
-    let head = has_marker_prefix_of_marks_place bytes place format marks (omega (arith, later)) in
-    let fits : head.0 + 12 ≤ end = omega (arith, so_far place format marks (omega (arith, later)), head.1) in
+    → (position : ℕ) (format : Format) → HasMarkerAt bytes position format → position ≤ newline + 1
+no_later_marker bytes end newline within so_far last position format marks =
+    le_of_not_lt (newline + 1) position (λ later.
+    let head = has_marker_prefix_of_has_marker_at bytes position format marks (omega (arith, later)) in
+    let fits : head.0 + 12 ≤ end = omega (arith, so_far position format marks (omega (arith, later)), head.1) in
     last.0.after head.0 (omega (arith, later, head.1)) (omega (arith, fits, length-take-le end bytes within))
     (occurs_at_take bytes marker_prefix end head.0 head.2 within fits))
 
@@ -109,12 +112,12 @@ pub prefixes_before_newline : (bytes : List ℕ) (end newline : ℕ) → end ≤
 prefixes_before_newline bytes end newline within so_far last unmarked =
     let here = occurs_at_of_take bytes marker_prefix end newline last.1 within in (
       omega (arith, here.fits),
-      λ place format marks positive.
+      λ position format marks positive.
           let P : ℕ → Type 0 = λ it. BeginsWithMarker format (bytes_from bytes it) in
-          let other : place ≢ newline + 1 =
-          λ same. unmarked format (subst P same (rw (take_rest bytes place) (begins_with_marker_at_place bytes place format marks))) in
-          let head = has_marker_prefix_of_marks_place bytes place format marks positive in
-          let before : head.0 < newline = omega (arith, other, head.1, no_later_marker bytes end newline within so_far last place format marks) in
+          let other : position ≢ newline + 1 =
+          λ same. unmarked format (subst P same (rw (take_rest bytes position) (begins_with_marker_at_position bytes position format marks))) in
+          let head = has_marker_prefix_of_has_marker_at bytes position format marks positive in
+          let before : head.0 < newline = omega (arith, other, head.1, no_later_marker bytes end newline within so_far last position format marks) in
           omega (arith, head.1, marker_prefixes_do_not_overlap bytes head.0 newline head.2 here before),
     )
 
@@ -143,11 +146,11 @@ marker_place_at_newline bytes end newline format within so_far last marked =
 
 -- without a prefix, only the start of the bytes can have a marker
 no_marker_after_start : (bytes : List ℕ) (end : ℕ) → end ≤ length bytes → HasMarkerPrefixesBefore bytes end → IsLastMarkerPrefix bytes end None
-    → (place : ℕ) (format : Format) → MarksPlace bytes place format → place ≤ 0
-no_marker_after_start bytes end within so_far none place format marks =
-    le_of_not_lt 0 place (λ positive.
-    let head = has_marker_prefix_of_marks_place bytes place format marks positive in
-    let fits : head.0 + 12 ≤ end = omega (arith, so_far place format marks positive, head.1) in
+    → (position : ℕ) (format : Format) → HasMarkerAt bytes position format → position ≤ 0
+no_marker_after_start bytes end within so_far none position format marks =
+    le_of_not_lt 0 position (λ positive.
+    let head = has_marker_prefix_of_has_marker_at bytes position format marks positive in
+    let fits : head.0 + 12 ≤ end = omega (arith, so_far position format marks positive, head.1) in
     none head.0 (omega arith) (omega (arith, fits, length-take-le end bytes within)) (occurs_at_take bytes marker_prefix end head.0 head.2 within fits))
 
 pub marker_place_at_start : (bytes : List ℕ) (end : ℕ) (format : Format) → end ≤ length bytes → HasMarkerPrefixesBefore bytes end
@@ -161,7 +164,7 @@ marker_place_at_start bytes end format within so_far none marked =
 
 pub no_marker_of_no_prefix : (bytes : List ℕ) (end : ℕ) → end ≤ length bytes → HasMarkerPrefixesBefore bytes end → IsLastMarkerPrefix bytes end None
     → BeginsWithNoMarker bytes → HasNoMarker bytes
-no_marker_of_no_prefix bytes end within so_far none unmarked place format marks =
+no_marker_of_no_prefix bytes end within so_far none unmarked position format marks =
     let P : ℕ → Type 0 = λ it. BeginsWithMarker format (drop it bytes) in
-    let first : place ≡ 0 = omega (arith, no_marker_after_start bytes end within so_far none place format marks) in
-    unmarked format (subst P first (begins_with_marker_at_place bytes place format marks))
+    let first : position ≡ 0 = omega (arith, no_marker_after_start bytes end within so_far none position format marks) in
+    unmarked format (subst P first (begins_with_marker_at_position bytes position format marks))

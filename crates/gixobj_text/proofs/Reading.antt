@@ -62,7 +62,7 @@ rest_len_lt bytes line rest first = by_line bytes line rest first.joined first.s
 pub is_next_trailer_at_line : (entire bytes line rest token first : List ℕ) → trailers_of_bytes bytes ≡ trailers_of_bytes entire
     → first_is_folded (lines_of bytes) ≡ first_is_folded (lines_of entire) → length bytes ≤ length entire → HasLastLines entire bytes
     → IsFirstLine bytes line rest → Some (token, first) ≡ parts_of_line line → IsNextTrailer entire token first rest
-is_next_trailer_at_line entire bytes line rest token first trailers folded few last one is =
+is_next_trailer_at_line entire bytes line rest token first trailers folded bound last one is =
     let less : length rest < length bytes = rest_len_lt bytes line rest one in
     record {
       trailers = sym trailers ∙ ap trailers_of one.lines

@@ -47,12 +47,12 @@ remaining_trailers_of_run before trailers (after, (last, run, ends)) = trailer_v
 -- ---- filtered trailers
 
 remaining_filtered_of_none : (before after : Filtered) → NextFiltered before None after → remaining_filtered before ≡ []
-remaining_filtered_of_none before after (middle, passes, gives, passed, same) = filtered_of_none (filter_of before) (all_of before) middle passes gives.0
+remaining_filtered_of_none before after (middle, passes, gives, filter_answer, same) = filtered_of_none (filter_of before) (all_of before) middle passes gives.0
 
 remaining_filtered_of_next : (before : Filtered) (one : TrailerRef) (after : Filtered) → NextFiltered before (Some (Ok one)) after
     → remaining_filtered before ≡ trailer_view one ∷ remaining_filtered after
-remaining_filtered_of_next before one after (middle, passes, gives, passed, same) =
-    filtered_of_next (filter_of before) (all_of before) middle (all_of after) one passes gives.0 passed
+remaining_filtered_of_next before one after (middle, passes, gives, filter_answer, same) =
+    filtered_of_next (filter_of before) (all_of before) middle (all_of after) one passes gives.0 filter_answer
     ∙ ap (λ (by : Filter). trailer_view one ∷ filtered_of by (remaining_trailers (all_of after))) (sym same)
 
 trailer_views_of_filtered_yields : (before : Filtered) (trailers : List TrailerRef) (last after : Filtered)

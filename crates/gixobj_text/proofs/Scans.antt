@@ -1,4 +1,5 @@
--- A scan over lines to their last run, one more line and its end; the functions of `scan` use these lemmas.
+-- A scan of all lines of a body ends at its last run, whose counts decide where a trailer block starts; the functions
+-- of `scan` use these lemmas.
 use Rattle.std.proofs.Common.{◌*◌, ◌++◌, ◌+◌, ◌<◌, ◌∙◌, ◌∷◌, ◌≡◌, ◌≢◌, ◌≤◌, ◌⊎◌, All, Bool, List, [], ap, append-nil, append_assoc, arith, false, inl, inr, length, length-append, refl, subst, sym, true, ℕ}
 use Rattle.std.proofs.lemmas.List.Elements.{All-head, All-tail}
 use Rattle.std.proofs.lemmas.List.Folds.{concat-append}
@@ -11,15 +12,16 @@ use Rattle.gixobj_text.specs.FirstLines.{IsFirstLine}
 use Rattle.gixobj_text.specs.BodyLines.{is_blank, trimmed_line}
 use Rattle.gixobj_text.specs.Scanned.{EndsAfter, HasRun, IsWalked, Scanned}
 use Rattle.gixobj_text.specs.TrailerBlocks.{EndsBlank, IsTrailerBlock, IsTrailerBlockStart, IsLastRun, StartsAfter, count_others, trailer_count}
-use Rattle.gixobj_text.specs.declared.commit.message.body.run.Run.{Run}
+use Rattle.gixobj_text.specs.declared.commit.message.body.line_counts.LineCounts.{LineCounts}
 use Rattle.gixobj_text.specs.declared.commit.message.body.scan.Scan.{Scan}
 use Rattle.gixobj_text.proofs.LastRuns.{Parts, parts_of_last_run}
 use Rattle.gixobj_text.proofs.OneLine.{Blank, Filled, Lines, all_snoc, is_last_run_snoc_blank, ends_blank_snoc, is_last_run_snoc_first, is_last_run_snoc_filled}
 
 -- ---- one more line
 
-concat_len_snoc : (lines : Lines) (line : List ℕ) (place : ℕ) → place ≡ length (concat lines) → place + length line ≡ length (concat (lines ++ line ∷ []))
-concat_len_snoc lines line place is =
+concat_len_snoc : (lines : Lines) (line : List ℕ) (position : ℕ) → position ≡ length (concat lines)
+    → position + length line ≡ length (concat (lines ++ line ∷ []))
+concat_len_snoc lines line position is =
     let joined : length (concat (lines ++ line ∷ [])) ≡ length (concat lines ++ (line ++ [])) = ap length (concat-append lines (line ∷ [])) in
     let first : length (concat lines ++ (line ++ [])) ≡ length (concat lines) + length (line ++ []) = length-append (concat lines) (line ++ []) in
     let second : length (line ++ []) ≡ length line + 0 = length-append line [] in
@@ -31,9 +33,9 @@ starts_after_snoc lines blank end (inl (none, is)) = inr (inl (blank, ap (λ (ls
 starts_after_snoc lines blank end (inr (prefix, line, joined, is)) =
     inr (inr (prefix, line, blank, ap (λ (ls : Lines). ls ++ blank ∷ []) joined ∙ append_assoc prefix (line ∷ []) (blank ∷ []), is))
 
-ends_after_snoc : (lines : Lines) (line : List ℕ) (place end : ℕ) → place ≡ length (concat lines) → end ≡ place + length (trimmed_line line)
+ends_after_snoc : (lines : Lines) (line : List ℕ) (position end : ℕ) → position ≡ length (concat lines) → end ≡ position + length (trimmed_line line)
     → EndsAfter (lines ++ line ∷ []) end
-ends_after_snoc lines line place end at is = inr (lines, line, refl, is ∙ ap (λ (n : ℕ). n + length (trimmed_line line)) at)
+ends_after_snoc lines line position end at is = inr (lines, line, refl, is ∙ ap (λ (n : ℕ). n + length (trimmed_line line)) at)
 
 has_run_snoc_blank : (lines : Lines) (line : List ℕ) (old new : Scan) → Blank line → HasRun lines old → new.going ≡ false → new.start ≡ old.start
     → new.run ≡ old.run → HasRun (lines ++ line ∷ []) new
@@ -44,17 +46,17 @@ has_run_snoc_blank lines line old new blank it going start run = record {
   last = is_last_run_snoc_blank lines it.before it.run it.after line blank it.last;
   going = λ is. cc (going, is);
   starts = subst (λ (n : ℕ). StartsAfter it.before n) (sym start) it.starts;
-  counts = subst (λ (r : Run). Counts it.run r) (sym run) it.counts;
+  counts = subst (λ (r : LineCounts). Counts it.run r) (sym run) it.counts;
 }
 
 pub scanned_snoc_blank : (lines : Lines) (line : List ℕ) (old new : Scan) → Scanned lines old → Blank line
-    → new.place ≡ old.place + length line → new.last ≡ old.place + length (trimmed_line line) → new.next ≡ old.last → new.start ≡ old.start
+    → new.position ≡ old.position + length line → new.last ≡ old.position + length (trimmed_line line) → new.next ≡ old.last → new.start ≡ old.start
     → new.going ≡ false
     → new.some ≡ old.some → new.run ≡ old.run
     → Scanned (lines ++ line ∷ []) new
-scanned_snoc_blank lines line old new it blank place last next start going some run = record {
-  place = place ∙ concat_len_snoc lines line old.place it.place;
-  last = ends_after_snoc lines line old.place new.last it.place last;
+scanned_snoc_blank lines line old new it blank position last next start going some run = record {
+  position = position ∙ concat_len_snoc lines line old.position it.position;
+  last = ends_after_snoc lines line old.position new.last it.position last;
   next = λ is. (
     subst (λ (n : ℕ). StartsAfter (lines ++ line ∷ []) n) (sym next) (starts_after_snoc lines line old.last it.last),
     ends_blank_snoc lines line blank,
@@ -80,15 +82,15 @@ some_of_going true going none is = refl
 some_of_going false going none is = cc (none refl, is)
 
 pub scanned_snoc_filled : (lines : Lines) (line : List ℕ) (old new : Scan) → Scanned lines old → Filled line → old.going ≡ true
-    → new.place ≡ old.place + length line → new.last ≡ old.place + length (trimmed_line line) → new.start ≡ old.start → new.going ≡ true
+    → new.position ≡ old.position + length line → new.last ≡ old.position + length (trimmed_line line) → new.start ≡ old.start → new.going ≡ true
     → new.some ≡ true
     → ((run : Lines) → Counts run old.run → Counts (run ++ line ∷ []) new.run)
     → Scanned (lines ++ line ∷ []) new
-scanned_snoc_filled lines line old new it filled goes place last start going some counts =
+scanned_snoc_filled lines line old new it filled goes position last start going some counts =
     let was : HasRun lines old = it.some (some_of_going old.some old.going (λ none. (it.none none).1) goes) in
     record {
-      place = place ∙ concat_len_snoc lines line old.place it.place;
-      last = ends_after_snoc lines line old.place new.last it.place last;
+      position = position ∙ concat_len_snoc lines line old.position it.position;
+      last = ends_after_snoc lines line old.position new.last it.position last;
       next = λ is. cc (going, is);
       none = λ is. cc (some, is);
       some = λ is. has_run_snoc_filled lines line old new filled was (was.going goes) start (counts was.run was.counts);
@@ -107,13 +109,13 @@ has_run_snoc_first lines line old new filled starts ends start counts = record {
 }
 
 pub scanned_snoc_first : (lines : Lines) (line : List ℕ) (old new : Scan) → Scanned lines old → Filled line → old.going ≡ false
-    → new.place ≡ old.place + length line → new.last ≡ old.place + length (trimmed_line line) → new.start ≡ old.next → new.going ≡ true
+    → new.position ≡ old.position + length line → new.last ≡ old.position + length (trimmed_line line) → new.start ≡ old.next → new.going ≡ true
     → new.some ≡ true
     → Counts (line ∷ []) new.run
     → Scanned (lines ++ line ∷ []) new
-scanned_snoc_first lines line old new it filled goes place last start going some counts = record {
-  place = place ∙ concat_len_snoc lines line old.place it.place;
-  last = ends_after_snoc lines line old.place new.last it.place last;
+scanned_snoc_first lines line old new it filled goes position last start going some counts = record {
+  position = position ∙ concat_len_snoc lines line old.position it.position;
+  last = ends_after_snoc lines line old.position new.last it.position last;
   next = λ is. cc (going, is);
   none = λ is. cc (some, is);
   some = λ is. has_run_snoc_first lines line old new filled (it.next goes).0 (it.next goes).1 start counts;
@@ -121,28 +123,28 @@ scanned_snoc_first lines line old new it filled goes place last start going some
 
 -- ---- the scan
 
-pub is_walked_nil : (body : List ℕ) (it : Scan) → Scanned [] it → it.place ≡ 0 → it.run.trailers ≤ 0 → it.run.others ≤ 0 → IsWalked body body it
-is_walked_nil body it scanned place trailers other = record {
+pub is_walked_nil : (body : List ℕ) (it : Scan) → Scanned [] it → it.position ≡ 0 → it.run.trailers ≤ 0 → it.run.others ≤ 0 → IsWalked body body it
+is_walked_nil body it scanned position trailers other = record {
   lines = [];
   joined = refl;
   scanned = scanned;
-  place = omega arith;
+  position = omega arith;
   trailers = omega arith;
   others = omega arith;
 }
 
 pub is_walked_snoc : (body bytes line rest : List ℕ) (old new : Scan) → IsWalked body bytes old → IsFirstLine bytes line rest
     → ((lines : Lines) → Scanned lines old → Scanned (lines ++ line ∷ []) new)
-    → new.place ≡ old.place + length line → new.run.trailers ≤ new.place → new.run.others ≤ new.place
+    → new.position ≡ old.position + length line → new.run.trailers ≤ new.position → new.run.others ≤ new.position
     → IsWalked body rest new
-is_walked_snoc body bytes line rest old new it first step place trailers other =
+is_walked_snoc body bytes line rest old new it first step position trailers other =
     let joined : length bytes ≡ length line + length rest = ap length first.joined ∙ length-append line rest in
-    let before : old.place + length bytes ≡ length body = it.place in
+    let before : old.position + length bytes ≡ length body = it.position in
     record {
       lines = it.lines ++ line ∷ [];
       joined = it.joined ∙ ap (λ (ls : Lines). it.lines ++ ls) first.lines ∙ sym (append_assoc it.lines (line ∷ []) (lines_of rest));
       scanned = step it.lines it.scanned;
-      place = omega arith;
+      position = omega arith;
       trailers = trailers;
       others = other;
     }
@@ -156,25 +158,25 @@ scanned_of_walked body rest it walked none =
 -- ---- the end of the scan
 
 -- the counts describe a trailer block
-abbrev SaysBlock : Run → Type 0
+abbrev SaysBlock : LineCounts → Type 0
 SaysBlock it = ((0 < it.trailers) × (it.others ≡ 0)) ⊎ (IsTrue it.recognised × (it.others ≤ 3 * it.trailers))
 
-trailer_block_of_counts : (run : Lines) (it : Run) → Counts run it → SaysBlock it → IsTrailerBlock run
+trailer_block_of_counts : (run : Lines) (it : LineCounts) → Counts run it → SaysBlock it → IsTrailerBlock run
 trailer_block_of_counts run it counts (inl (some, none)) = inl (subst (λ (n : ℕ). 0 < n) counts.trailers some, sym counts.others ∙ none)
-trailer_block_of_counts run it counts (inr (is, few)) =
+trailer_block_of_counts run it counts (inr (is, bound)) =
     inr (
       sym counts.recognised ∙ is,
       subst (λ (n : ℕ). n ≤ 3 * trailer_count run) counts.others
-          (subst (λ (n : ℕ). it.others ≤ 3 * n) counts.trailers few),
+          (subst (λ (n : ℕ). it.others ≤ 3 * n) counts.trailers bound),
     )
 
-says_block_of_trailer_block : (run : Lines) (it : Run) → Counts run it → IsTrailerBlock run → SaysBlock it
+says_block_of_trailer_block : (run : Lines) (it : LineCounts) → Counts run it → IsTrailerBlock run → SaysBlock it
 says_block_of_trailer_block run it counts (inl (some, none)) = inl (subst (λ (n : ℕ). 0 < n) (sym counts.trailers) some, counts.others ∙ none)
-says_block_of_trailer_block run it counts (inr (is, few)) =
+says_block_of_trailer_block run it counts (inr (is, bound)) =
     inr (
       counts.recognised ∙ is,
       subst (λ (n : ℕ). n ≤ 3 * it.trailers) (sym counts.others)
-          (subst (λ (n : ℕ). count_others false run ≤ 3 * n) (sym counts.trailers) few),
+          (subst (λ (n : ℕ). count_others false run ≤ 3 * n) (sym counts.trailers) bound),
     )
 
 pub is_block_start_at_run : (body : List ℕ) (it : Scan) (is : Bool) → Scanned (lines_of body) it → it.some ≡ true → (IsTrue is ↔ SaysBlock it.run) → is ≡ true

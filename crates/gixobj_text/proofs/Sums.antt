@@ -1,4 +1,5 @@
--- Pieces, trailing white space and summaries, piece by piece; the functions of `summary` use these lemmas.
+-- The summary of a title is made of its pieces between newlines, without trailing white space; the functions of
+-- `summary` use these lemmas.
 use Rattle.std.proofs.Common.{◌++◌, ◌+◌, ◌-◌, ◌<◌, ◌∙◌, ◌∷◌, ◌≡◌, ◌≢◌, Bool, List, None, Some, [], ap, append-nil, append_assoc, arith, cond, drop, false, length, length-drop, map, refl, reverse, slice_index, suc, sym, take, true, zero, ℕ}
 use Rattle.std.proofs.lemmas.Bool.{eqb-true, ne_eqb, eq-eqb, cond-true, cond-false}
 use Rattle.std.proofs.lemmas.List.{reverse-append, reverse-reverse}
@@ -19,15 +20,15 @@ Pieces = List (List ℕ)
 
 -- ---- pieces
 
-pieces_of_first_newline : (content : List ℕ) (place : ℕ) → place < length content → slice_index content place ≡ 10
-    → ((k : ℕ) → k < place → slice_index content k ≢ 10)
-    → pieces_of content ≡ take place content ∷ pieces_of (drop (suc place) content)
-pieces_of_first_newline [] place below is before = absurd (omega arith)
+pieces_of_first_newline : (content : List ℕ) (position : ℕ) → position < length content → slice_index content position ≡ 10
+    → ((k : ℕ) → k < position → slice_index content k ≢ 10)
+    → pieces_of content ≡ take position content ∷ pieces_of (drop (suc position) content)
+pieces_of_first_newline [] position below is before = absurd (omega arith)
 pieces_of_first_newline (byte ∷ rest) zero below is before = cond-true _ _ _ (eq-eqb byte 10 is)
-pieces_of_first_newline (byte ∷ rest) (suc place) below is before =
+pieces_of_first_newline (byte ∷ rest) (suc position) below is before =
     let other : byte ≢ 10 = before 0 (omega arith) in
     cond-false _ _ _ (ne_eqb byte 10 other) ∙ ap (onto_first byte)
-    (pieces_of_first_newline rest place (omega arith) is (λ k under. before (suc k) (omega arith)))
+    (pieces_of_first_newline rest position (omega arith) is (λ k under. before (suc k) (omega arith)))
 
 pieces_of_no_newline : (content : List ℕ) → ((k : ℕ) → k < length content → slice_index content k ≢ 10) → pieces_of content ≡ content ∷ []
 pieces_of_no_newline [] none = refl
@@ -35,19 +36,19 @@ pieces_of_no_newline (byte ∷ rest) none =
     let other : byte ≢ 10 = none 0 (omega arith) in
     cond-false _ _ _ (ne_eqb byte 10 other) ∙ ap (onto_first byte) (pieces_of_no_newline rest (λ k under. none (suc k) (omega arith)))
 
-pub pieces_of_split : (content piece rest : List ℕ) (place : ℕ) → IsFirstByte (is_byte 10) content (Some place) → piece ≡ take place content
-    → rest ≡ drop (place + 1) content → pieces_of content ≡ piece ∷ pieces_of rest
-pieces_of_split content piece rest place (none, here) first after =
-    pieces_of_first_newline content place none.high (eqb-true (slice_index content place) 10 here)
+pub pieces_of_split : (content piece rest : List ℕ) (position : ℕ) → IsFirstByte (is_byte 10) content (Some position) → piece ≡ take position content
+    → rest ≡ drop (position + 1) content → pieces_of content ≡ piece ∷ pieces_of rest
+pieces_of_split content piece rest position (none, here) first after =
+    pieces_of_first_newline content position none.high (eqb-true (slice_index content position) 10 here)
     (λ k below is. none.before k (omega arith) below (eq-eqb (slice_index content k) 10 is))
-    ∙ ap (λ (p : List ℕ). p ∷ pieces_of (drop (suc place) content)) (sym first)
-    ∙ ap (λ (r : List ℕ). piece ∷ pieces_of r) (ap (λ (n : ℕ). drop n content) (let is : suc place ≡ place + 1 = omega arith in is) ∙ sym after)
+    ∙ ap (λ (p : List ℕ). p ∷ pieces_of (drop (suc position) content)) (sym first)
+    ∙ ap (λ (r : List ℕ). piece ∷ pieces_of r) (ap (λ (n : ℕ). drop n content) (let is : suc position ≡ position + 1 = omega arith in is) ∙ sym after)
 
-pub split_rest_len_lt : (content rest : List ℕ) (place : ℕ) → IsFirstByte (is_byte 10) content (Some place) → rest ≡ drop (place + 1) content
+pub split_rest_len_lt : (content rest : List ℕ) (position : ℕ) → IsFirstByte (is_byte 10) content (Some position) → rest ≡ drop (position + 1) content
     → length rest < length content
-split_rest_len_lt content rest place (none, here) is =
-    let below : place < length content = none.high in
-    let remaining : length rest ≡ length content - (place + 1) = ap length is ∙ length-drop (place + 1) content in
+split_rest_len_lt content rest position (none, here) is =
+    let below : position < length content = none.high in
+    let remaining : length rest ≡ length content - (position + 1) = ap length is ∙ length-drop (position + 1) content in
     omega arith
 
 pub pieces_of_newline_free : (content : List ℕ) → IsFirstByte (is_byte 10) content None → pieces_of content ≡ content ∷ []

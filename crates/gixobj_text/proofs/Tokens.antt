@@ -67,7 +67,7 @@ trailer_parts_of_token content rest byte joined is =
     len_sub_len_after_token : suc (prefix_len is_token_byte rest) ≡ length (byte ∷ rest) - length (after_token rest)
     len_sub_len_after_token =
         let after_len : length (after_token rest) ≡ length rest - prefix_len is_token_byte rest = length-drop (prefix_len is_token_byte rest) rest in
-        let few : prefix_len is_token_byte rest ≤ length rest = prefix_len-le-length is_token_byte rest in
+        let bound : prefix_len is_token_byte rest ≤ length rest = prefix_len-le-length is_token_byte rest in
         omega arith
 
 pub trailer_parts_none : (content rest : List ℕ) (byte : ℕ) → content ≡ byte ∷ rest → is_token_byte byte ≡ false → trailer_parts content ≡ None

@@ -4,7 +4,7 @@ use Rattle.std.specs.List.{list_any}
 use Rattle.gixobj_text.specs.BodyLines.{is_indented, is_git_generated}
 use Rattle.gixobj_text.specs.Scanning.{is_below_trailer_after}
 use Rattle.gixobj_text.specs.TrailerBlocks.{counts_as_trailer, count_others, trailer_count}
-use Rattle.gixobj_text.specs.declared.commit.message.body.run.Run.{Run}
+use Rattle.gixobj_text.specs.declared.commit.message.body.line_counts.LineCounts.{LineCounts}
 
 -- what a line adds to the number of other lines; `above` is whether the last line before it that isn't indented counts
 -- as a trailer
@@ -15,7 +15,7 @@ other_count_of above line =
     else 1
 
 -- the counts of this run
-pub record Counts (run : List (List ℕ)) (it : Run) : Type 0 where
+pub record Counts (run : List (List ℕ)) (it : LineCounts) : Type 0 where
   pub trailers : it.trailers ≡ trailer_count run
   pub others : it.others ≡ count_others false run
   pub recognised : it.recognised ≡ list_any is_git_generated run

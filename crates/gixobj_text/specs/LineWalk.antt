@@ -1,7 +1,7 @@
 -- The backward walk over the lines that begin with the prefix of all markers.
 use Rattle.std.specs.Prelude.{◌≤◌, ◌<◌, ◌+◌, ℕ, List, ◌∷◌, Option, codes, length, take}
 use Rattle.bstr.specs.Find.{FindsLastNeedle}
-use Rattle.gixobj_text.specs.Markers.{MarksPlace}
+use Rattle.gixobj_text.specs.Markers.{HasMarkerAt}
 use Rattle.gixobj_text.specs.declared.signature.Format.{Format}
 use Rattle.gixobj_hash.specs.Bytes.{newline}
 
@@ -11,9 +11,9 @@ marker_prefix = newline ∷ codes "-----BEGIN "
 
 -- the last position of a newline and the marker prefix before `end`, or none
 abbrev pub IsLastMarkerPrefix : List ℕ → ℕ → Option ℕ → Type 0
-IsLastMarkerPrefix bytes end place = FindsLastNeedle (take end bytes) marker_prefix place
+IsLastMarkerPrefix bytes end position = FindsLastNeedle (take end bytes) marker_prefix position
 
 -- each marker after a newline has its prefix before `end`
 abbrev pub HasMarkerPrefixesBefore : List ℕ → ℕ → Type 0
-HasMarkerPrefixesBefore bytes end = (place : ℕ) (format : Format) → MarksPlace bytes place format → 0 < place
-    → place + length (codes "-----BEGIN ") ≤ end
+HasMarkerPrefixesBefore bytes end = (position : ℕ) (format : Format) → HasMarkerAt bytes position format → 0 < position
+    → position + length (codes "-----BEGIN ") ≤ end

@@ -27,19 +27,19 @@ abbrev pub StartsLine : List ℕ → Type 0
 StartsLine head = (head ≡ []) ⊎ ((lines : List ℕ) × (head ≡ lines ++ newline ∷ []))
 
 -- a marker of this format is at this position, at the start of a line
-pub record MarksPlace (bytes : List ℕ) (place : ℕ) (format : Format) : Type 0 where
+pub record HasMarkerAt (bytes : List ℕ) (position : ℕ) (format : Format) : Type 0 where
   pub prefix : List ℕ
   pub rest : List ℕ
   pub joined : bytes ≡ prefix ++ rest
-  pub as_long : length prefix ≡ place
+  pub as_long : length prefix ≡ position
   pub starts : StartsLine prefix
   pub marked : BeginsWithMarker format rest
 
 -- the last position of a marker at the start of a line, and its format
-pub record IsMarkerPlace (bytes : List ℕ) (place : ℕ) (format : Format) : Type 0 where
-  pub here : MarksPlace bytes place format
-  pub last : (other : ℕ) (format' : Format) → MarksPlace bytes other format' → other ≤ place
+pub record IsMarkerPlace (bytes : List ℕ) (position : ℕ) (format : Format) : Type 0 where
+  pub here : HasMarkerAt bytes position format
+  pub last : (other : ℕ) (format' : Format) → HasMarkerAt bytes other format' → other ≤ position
 
 -- no line begins with a marker
 abbrev pub HasNoMarker : List ℕ → Type 0
-HasNoMarker bytes = (place : ℕ) (format : Format) → ¬ MarksPlace bytes place format
+HasNoMarker bytes = (position : ℕ) (format : Format) → ¬ HasMarkerAt bytes position format

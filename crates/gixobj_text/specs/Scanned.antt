@@ -25,7 +25,7 @@ pub record HasRun (lines : List (List ℕ)) (it : Scan) : Type 0 where
 
 -- the state of a scan after these lines
 pub record Scanned (lines : List (List ℕ)) (it : Scan) : Type 0 where
-  pub place : it.place ≡ length (concat lines)
+  pub position : it.position ≡ length (concat lines)
   pub last : EndsAfter lines it.last
   pub next : it.going ≡ false → StartsAfter lines it.next × EndsBlank lines
   pub none : it.some ≡ false → All (λ line. IsTrue (is_blank line)) lines × (it.going ≡ false)
@@ -40,6 +40,6 @@ pub record IsWalked (body rest : List ℕ) (it : Scan) : Type 0 where
   pub lines : List (List ℕ)
   pub joined : lines_of body ≡ lines ++ lines_of rest
   pub scanned : Scanned lines it
-  pub place : it.place + length rest ≡ length body
-  pub trailers : it.run.trailers ≤ it.place
-  pub others : it.run.others ≤ it.place
+  pub position : it.position + length rest ≡ length body
+  pub trailers : it.run.trailers ≤ it.position
+  pub others : it.run.others ≤ it.position

@@ -6,7 +6,7 @@ use Rattle.gixobj_text.specs.MessageBlocks.{EndsTrailers}
 use Rattle.gixobj_text.specs.BodyLines.{is_continuation_line, is_trailer_line}
 
 -- the bytes are lines that all satisfy `P`, and then `rest` with its own lines
-pub record IsPast (P : List ℕ → Type 0) (bytes rest : List ℕ) : Type 0 where
+pub record HasConsumedAll (P : List ℕ → Type 0) (bytes rest : List ℕ) : Type 0 where
   pub consumed : List (List ℕ)
   pub joined : bytes ≡ concat consumed ++ rest
   pub lines : lines_of bytes ≡ consumed ++ lines_of rest
@@ -27,10 +27,10 @@ BeginsTrailer (line ∷ lines) = IsTrue (is_trailer_line line)
 
 -- the rest from the first trailer line on
 pub record IsAtTrailer (bytes rest : List ℕ) : Type 0 where
-  pub past : IsPast NoTrailer bytes rest
+  pub consumes : HasConsumedAll NoTrailer bytes rest
   pub begins : BeginsTrailer (lines_of rest)
 
 -- the rest after consecutive trailers
 pub record IsAfterTrailers (bytes rest : List ℕ) : Type 0 where
-  pub past : IsPast ContinuesTrailer bytes rest
+  pub consumes : HasConsumedAll ContinuesTrailer bytes rest
   pub ends : EndsTrailers (lines_of rest)

@@ -4,10 +4,10 @@ use Rattle.std.proofs.Math.Seq.{take-append_seam}
 use Rattle.std.proofs.lemmas.Bool.{eqb-true}
 use Rattle.std.proofs.lemmas.List.{length-append, length-take}
 use Rattle.std.proofs.lemmas.List.Elements.{All-push}
-use Rattle.gixobj_fields.proofs.Runs.{passes_one, yields_passed}
+use Rattle.gixobj_fields.proofs.Runs.{begins_with_pieces_snoc, yields_of_begins_with_pieces}
 use Rattle.gixobj_fields.specs.HeaderFormat.{encode_field}
 use Rattle.gixobj_fields.specs.Runs as runs
-use Rattle.gixobj_fields.specs.Runs.{PassesNone, Yields, broken, complete, yields_end, yields_error}
+use Rattle.gixobj_fields.specs.Runs.{BeginsWithOtherPieces, Yields, broken, complete, yields_end, yields_error}
 use Rattle.gixobj_hash.specs.declared.decode.Error.{Error}
 use Rattle.gixobj_hash.specs.declared.decode.Error.TheVariants.{Malformed, OutOfMemory}
 use Rattle.gixobj_hash.specs.declared.hash.kind.Kind.{Kind}
@@ -36,37 +36,40 @@ eq_take_append_rest one prefix rest all n is as_long =
     is ∙ ap (λ (xs : List ℕ). xs ++ rest)
     (sym (ap (take n) is ∙ ap (λ m. take m ((prefix ++ one) ++ rest)) (sym as_long) ∙ take-append_seam (prefix ++ one) rest))
 
-pub offset_advances : (content rest one after : List ℕ) (place : ℕ) → place + length rest ≡ length content → content ≡ take place content ++ rest
+pub offset_advances : (content rest one after : List ℕ) (position : ℕ) → position + length rest ≡ length content → content ≡ take position content ++ rest
     → rest ≡ one ++ after
-    → content ≡ take (place + (length rest - length after)) content ++ after
-offset_advances content rest one after place placed joined is =
+    → content ≡ take (position + (length rest - length after)) content ++ after
+offset_advances content rest one after position position_is joined is =
     let longer : length rest ≡ length one + length after = ap length is ∙ length-append one after in
-    let taken : length (take place content) ≡ place = length-take place content ∙ omega arith in
-    eq_take_append_rest one (take place content) after content (place + (length rest - length after))
-    (joined ∙ ap (λ (xs : List ℕ). take place content ++ xs) is ∙ sym (append_assoc (take place content) one after))
-    (length-append (take place content) one ∙ omega arith)
+    let taken : length (take position content) ≡ position = length-take position content ∙ omega arith in
+    eq_take_append_rest one (take position content) after content (position + (length rest - length after))
+    (joined ∙ ap (λ (xs : List ℕ). take position content ++ xs) is ∙ sym (append_assoc (take position content) one after))
+    (length-append (take position content) one ∙ omega arith)
 
 -- no consumed line has the name
 module _ (kind : Kind) (name content : List ℕ) (here : State) (rest : List ℕ)
-    (passes : PassesNone (BeginsWithLine kind) (IsNamedLine name) state.Tree content here rest) where
-  pub passes_on : (line : LineView) (next : State) (after : List ℕ) → BeginsWithLine kind here rest line next after → ¬ IsNamedLine name line
-      → PassesNone (BeginsWithLine kind) (IsNamedLine name) state.Tree content next after
-  passes_on line next after has other = (
-    passes.0 ++ line ∷ [],
-    passes_one (BeginsWithLine kind) state.Tree here next content rest after passes.0 line passes.1 has,
-    All-push (λ it. ¬ IsNamedLine name it) passes.0 line passes.2 other,
+    (begins_with : BeginsWithOtherPieces (BeginsWithLine kind) (IsNamedLine name) state.Tree content here rest) where
+  pub begins_with_more_pieces : (line : LineView) (next : State) (after : List ℕ) → BeginsWithLine kind here rest line next after → ¬ IsNamedLine name line
+      → BeginsWithOtherPieces (BeginsWithLine kind) (IsNamedLine name) state.Tree content next after
+  begins_with_more_pieces line next after has other = (
+    begins_with.0 ++ line ∷ [],
+    begins_with_pieces_snoc (BeginsWithLine kind) state.Tree here next content rest after begins_with.0 line begins_with.1 has,
+    All-push (λ it. ¬ IsNamedLine name it) begins_with.0 line begins_with.2 other,
   )
 
   pub ended : rest ≡ [] → runs.YieldsNone (BeginsWithLine kind) (IsNamedLine name) state.Tree content complete
   ended none =
-      let yields : Yields (BeginsWithLine kind) here rest [] complete = rw none (yields_end here) in
-      (passes.0, yields_passed (BeginsWithLine kind) state.Tree here content rest passes.0 complete passes.1 yields, passes.2)
+      let yields : Yields (BeginsWithLine kind) here rest [] complete = rw none (yields_end here) in (
+        begins_with.0,
+        yields_of_begins_with_pieces (BeginsWithLine kind) state.Tree here content rest begins_with.0 complete begins_with.1 yields,
+        begins_with.2,
+      )
 
   pub rejected : (error : Error) → rest ≢ [] → IsLineError kind here rest error → IsNamedHeaderError kind name content error
   rejected Malformed some none =
       let yields : Yields (BeginsWithLine kind) here rest [] broken = yields_error here rest some none in
-      (passes.0, yields_passed (BeginsWithLine kind) state.Tree here content rest passes.0 broken passes.1 yields, passes.2)
-  rejected OutOfMemory some wants = (here, rest, passes, wants)
+      (begins_with.0, yields_of_begins_with_pieces (BeginsWithLine kind) state.Tree here content rest begins_with.0 broken begins_with.1 yields, begins_with.2)
+  rejected OutOfMemory some wants = (here, rest, begins_with, wants)
 
 -- whether bytes remain, by their length
 pub not_nil_of_test : (xs : List ℕ) → (length xs == 0) ≡ false → xs ≢ []

@@ -12,45 +12,46 @@ use Rattle.gixobj_tokens.specs.TagBodies.{IsMalformedBody, IsBody, IsParted, are
 pub is_parted_unsigned : (bytes message : List ℕ) → message ≡ bytes → HasNoMarker bytes → IsParted bytes message None
 is_parted_unsigned bytes message same none = subst (λ (it : List ℕ). IsParted bytes it None) (sym same) (unsigned bytes none)
 
-pub is_parted_at_start : (bytes message signature : List ℕ) (place : ℕ) (format : Format) → IsMarkerPlace bytes place format → place ≡ 0 → message ≡ []
+pub is_parted_at_start : (bytes message signature : List ℕ) (position : ℕ) (format : Format) → IsMarkerPlace bytes position format → position ≡ 0 → message ≡ []
     → signature ≡ bytes → IsParted bytes message (Some signature)
-is_parted_at_start bytes message signature place format is start bare same =
+is_parted_at_start bytes message signature position format is start bare same =
     let at : IsMarkerPlace bytes 0 format = subst (λ (it : ℕ). IsMarkerPlace bytes it format) start is in
     rw (bare, same) (signed_at_once bytes format at)
 
 -- a marker after the first line begins the signature
-is_parted_after_lines : (bytes message signature lines rest : List ℕ) (place : ℕ) (format : Format) → IsMarkerPlace bytes place format
+is_parted_after_lines : (bytes message signature lines rest : List ℕ) (position : ℕ) (format : Format) → IsMarkerPlace bytes position format
     → bytes ≡ lines ++ 10 ∷ rest
-    → place ≡ length lines + 1
-    → message ≡ take (place - 1) bytes → signature ≡ take (length bytes - place) (drop place bytes) → IsParted bytes message (Some signature)
-is_parted_after_lines bytes message signature lines rest place format is joined at head after =
-    let count : place - 1 ≡ length lines = omega (arith, at) in
+    → position ≡ length lines + 1
+    → message ≡ take (position - 1) bytes → signature ≡ take (length bytes - position) (drop position bytes) → IsParted bytes message (Some signature)
+is_parted_after_lines bytes message signature lines rest position format is joined at head after =
+    let count : position - 1 ≡ length lines = omega (arith, at) in
     let same_message : message ≡ lines = head ∙ ap (λ (it : ℕ). take it bytes) count ∙ ap (take (length lines)) joined ∙ take-append_seam lines
     (10 ∷ rest) in
     let flat : bytes ≡ (lines ++ 10 ∷ []) ++ rest = joined ∙ sym (append_assoc lines (10 ∷ []) rest) in
-    let long : place ≡ length (lines ++ 10 ∷ []) = at ∙ sym (length-append lines (10 ∷ [])) in
-    let same_rest : signature ≡ rest = after ∙ take_rest bytes place ∙ ap (λ (it : ℕ). drop it bytes) long
+    let long : position ≡ length (lines ++ 10 ∷ []) = at ∙ sym (length-append lines (10 ∷ [])) in
+    let same_rest : signature ≡ rest = after ∙ take_rest bytes position ∙ ap (λ (it : ℕ). drop it bytes) long
     ∙ ap (drop (length (lines ++ 10 ∷ []))) flat
     ∙ drop-append_seam (lines ++ 10 ∷ []) rest in
     let here : IsMarkerPlace bytes (length lines + 1) format = subst (λ (it : ℕ). IsMarkerPlace bytes it format) at is in
     rw (same_message, same_rest) (signed bytes lines rest format joined here)
 
 -- a marker after nothing, or after lines, begins the signature
-is_parted_of_starts_line : (bytes message signature head rest : List ℕ) (place : ℕ) (format : Format) → IsMarkerPlace bytes place format → (place ≡ 0 → ⊥)
-    → message ≡ take (place - 1) bytes
-    → signature ≡ take (length bytes - place) (drop place bytes) → bytes ≡ head ++ rest → length head ≡ place → StartsLine head
+is_parted_of_starts_line : (bytes message signature head rest : List ℕ) (position : ℕ) (format : Format) → IsMarkerPlace bytes position format
+    → (position ≡ 0 → ⊥)
+    → message ≡ take (position - 1) bytes
+    → signature ≡ take (length bytes - position) (drop position bytes) → bytes ≡ head ++ rest → length head ≡ position → StartsLine head
     → IsParted bytes message (Some signature)
-is_parted_of_starts_line bytes message signature head rest place format is later before after joined long (inl bare) =
+is_parted_of_starts_line bytes message signature head rest position format is later before after joined long (inl bare) =
     absurd (later (sym long ∙ ap length bare))
-is_parted_of_starts_line bytes message signature head rest place format is later before after joined long (inr (lines, ends)) =
+is_parted_of_starts_line bytes message signature head rest position format is later before after joined long (inr (lines, ends)) =
     let flat : bytes ≡ lines ++ 10 ∷ rest = joined ∙ ap (λ (it : List ℕ). it ++ rest) ends ∙ append_assoc lines (10 ∷ []) rest in
-    is_parted_after_lines bytes message signature lines rest place format is flat (sym long ∙ ap length ends ∙ length-append lines (10 ∷ [])) before after
+    is_parted_after_lines bytes message signature lines rest position format is flat (sym long ∙ ap length ends ∙ length-append lines (10 ∷ [])) before after
 
-pub is_parted_at_marker : (bytes message signature : List ℕ) (place : ℕ) (format : Format) → IsMarkerPlace bytes place format → (place ≡ 0 → ⊥)
-    → message ≡ take (place - 1) bytes → signature ≡ take (length bytes - place) (drop place bytes)
+pub is_parted_at_marker : (bytes message signature : List ℕ) (position : ℕ) (format : Format) → IsMarkerPlace bytes position format → (position ≡ 0 → ⊥)
+    → message ≡ take (position - 1) bytes → signature ≡ take (length bytes - position) (drop position bytes)
     → IsParted bytes message (Some signature)
-is_parted_at_marker bytes message signature place format is later before after =
-    is_parted_of_starts_line bytes message signature is.here.prefix is.here.rest place format is later before after is.here.joined is.here.as_long
+is_parted_at_marker bytes message signature position format is later before after =
+    is_parted_of_starts_line bytes message signature is.here.prefix is.here.rest position format is later before after is.here.joined is.here.as_long
     is.here.starts
 
 -- ---- bodies

@@ -3,7 +3,7 @@ use Rattle.std.specs.Prelude.{◌≡◌, ℕ, List, Option, Some, None, ◌++◌
 use Rattle.std.specs.Cow.{cow_slice_items}
 use Rattle.gixobj_fields.specs.HeaderFormat.{Header}
 use Rattle.gixobj_fields.specs.Runs as runs
-use Rattle.gixobj_fields.specs.Runs.{PassesNone, broken, complete}
+use Rattle.gixobj_fields.specs.Runs.{BeginsWithOtherPieces, broken, complete}
 use Rattle.gixobj_hash.specs.declared.decode.Error.{Error}
 use Rattle.gixobj_hash.specs.declared.decode.Error.TheVariants.{Malformed, OutOfMemory}
 use Rattle.gixobj_hash.specs.declared.hash.kind.Kind.{Kind}
@@ -25,7 +25,7 @@ pub record HasNamedHeader (kind : Kind) (name content value others : List ℕ) :
   pub rest : List ℕ
   pub header : Header
   pub prefix : List ℕ
-  pub passes : PassesNone (BeginsWithLine kind) (IsNamedLine name) state.Tree content before input
+  pub begins_with : BeginsWithOtherPieces (BeginsWithLine kind) (IsNamedLine name) state.Tree content before input
   pub comes : BeginsWithLine kind before input (header_line header) following rest
   pub named : header.name ≡ name
   pub received : value ≡ header.value
@@ -50,5 +50,5 @@ IsNamedHeaderError kind name content Malformed =
     runs.YieldsNone (BeginsWithLine kind) (IsNamedLine name) state.Tree content broken
 IsNamedHeaderError kind name content OutOfMemory =
     (before : State) × (input : List ℕ)
-    × PassesNone (BeginsWithLine kind) (IsNamedLine name) state.Tree content before input
+    × BeginsWithOtherPieces (BeginsWithLine kind) (IsNamedLine name) state.Tree content before input
     × NeedsAllocation before input

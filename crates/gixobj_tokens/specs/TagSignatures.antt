@@ -5,7 +5,7 @@ use Rattle.gixobj_text.specs.declared.signature.Format.{Format}
 
 -- the signature begins at the last marker at the start of a line, and all bytes before it are signed
 pub record HasTagSignature (content signature signed : List ℕ) (format : Format) : Type 0 where
-  pub place : ℕ
-  pub is_place : IsMarkerPlace content place format
+  pub position : ℕ
+  pub is_marker_place : IsMarkerPlace content position format
   pub joined : content ≡ signed ++ signature
-  pub as_long : length signed ≡ place
+  pub as_long : length signed ≡ position

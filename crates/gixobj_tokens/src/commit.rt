@@ -87,21 +87,21 @@ pub fn find_header<'a>(
 {
     let mut state = State::Tree;
     let mut rest = bytes;
-    let mut place = 0;
+    let mut position = 0;
     'lines: while !rest.is_empty() {
         let (line, next, after) = match decode_line(alloc, state, hash_kind, rest) {
             Ok(read) => read,
             Err(error) => return Err(error),
         };
         if let Some(value) = value_of_line(line, name) {
-            let before = &bytes[..place];
+            let before = &bytes[..position];
             return Ok(Some(FoundHeader {
                 value,
                 before,
                 after,
             }));
         }
-        place += rest.len() - after.len();
+        position += rest.len() - after.len();
         state = next;
         rest = after;
     }

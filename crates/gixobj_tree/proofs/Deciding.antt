@@ -26,15 +26,15 @@ pub splits_at_or_byte_free : (byte : ℕ) (content : List ℕ) → ((prefix : Li
 splits_at_or_byte_free byte [] = inr (All-nil (λ it. it ≢ byte))
 splits_at_or_byte_free byte (first ∷ content) =
     ⊎_elim (λ is. inl ([], content, here is))
-    (λ other. ⊎_elim (λ cut. inl (first ∷ cut.0, cut.1, later other cut.2)) (λ free. inr (All-cons (λ it. it ≢ byte) first content other free))
+    (λ other. ⊎_elim (λ splits. inl (first ∷ splits.0, splits.1, later other splits.2)) (λ free. inr (All-cons (λ it. it ≢ byte) first content other free))
     (splits_at_or_byte_free byte content)) (cases_eq first byte)
   where
     here : first ≡ byte → SplitsAt byte (first ∷ content) [] content
     here is = record { joined = ap (λ (it : ℕ). it ∷ content) is; first = All-nil (λ it. it ≢ byte) }
 
     later : {prefix rest : List ℕ} → first ≢ byte → SplitsAt byte content prefix rest → SplitsAt byte (first ∷ content) (first ∷ prefix) rest
-    later {prefix = prefix} other cut =
-        record { joined = ap (λ (it : List ℕ). first ∷ it) cut.joined; first = All-cons (λ it. it ≢ byte) first prefix other cut.first }
+    later {prefix = prefix} other splits =
+        record { joined = ap (λ (it : List ℕ). first ∷ it) splits.joined; first = All-cons (λ it. it ≢ byte) first prefix other splits.first }
 
 -- bytes are octal digits, or not
 all_octal_or_not : (content : List ℕ) → AllDigits 8 content ⊎ (AllDigits 8 content → ⊥)
@@ -84,7 +84,7 @@ entry_or_none_after_mode : (kind : Kind) (input after from_name : List ℕ) (mod
     → AnEntry kind input
     ⊎ BeginsWithNoEntry kind input
 entry_or_none_after_mode kind input after from_name mode begun spaced =
-    ⊎_elim (λ cut. from_id_on cut.0 cut.1 cut.2) (λ free. inr (no_entry_without_name kind input after from_name mode begun spaced free))
+    ⊎_elim (λ splits. from_id_on splits.0 splits.1 splits.2) (λ free. inr (no_entry_without_name kind input after from_name mode begun spaced free))
     (splits_at_or_byte_free 0 from_name)
   where
     from_id_on : (name from_id : List ℕ) → SplitsAt 0 from_name name from_id → AnEntry kind input ⊎ BeginsWithNoEntry kind input
@@ -127,13 +127,14 @@ module _ (kind : Kind) (input digits after : List ℕ) (split : SplitsAt 32 inpu
   by_length octal = ⊎_elim (λ long. inr (no_entry (λ it. length it ≤ 7) (λ e rest p. p.mode.short) (λ short. omega arith))) (by_byte_six octal)
       (cases_lt 7 (length digits))
 
-  cut_entry : AnEntry kind input ⊎ BeginsWithNoEntry kind input
-  cut_entry = ⊎_elim by_length (λ other. inr (no_entry (AllDigits 8) (λ e rest p. p.mode.octal) other)) (all_octal_or_not digits)
+  entry_or_none_after_split : AnEntry kind input ⊎ BeginsWithNoEntry kind input
+  entry_or_none_after_split = ⊎_elim by_length (λ other. inr (no_entry (AllDigits 8) (λ e rest p. p.mode.octal) other)) (all_octal_or_not digits)
 
 pub begins_with_entry_or_not : (kind : Kind) (input : List ℕ) → ((e : EntryView) × (rest : List ℕ) × BeginsWithEntry kind input e rest)
     ⊎ BeginsWithNoEntry kind input
 begins_with_entry_or_not kind input =
-    ⊎_elim (λ cut. cut_entry kind input cut.0 cut.1 cut.2) (λ free. inr (λ e rest has. no_space_there e rest free (parted_of_begins kind input e rest has)))
+    ⊎_elim (λ splits. entry_or_none_after_split kind input splits.0 splits.1 splits.2)
+    (λ free. inr (λ e rest has. no_space_there e rest free (parted_of_begins kind input e rest has)))
     (splits_at_or_byte_free 32 input)
   where
     no_space_there : (e : EntryView) (rest : List ℕ) → IsByteFree 32 input → Parted kind input e rest → ⊥

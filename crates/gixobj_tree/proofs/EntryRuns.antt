@@ -4,8 +4,8 @@ use Rattle.std.proofs.lemmas.List.{map-append}
 use Rattle.std.specs.List.{AllZip, concat}
 use Rattle.std.specs.Prelude.{⊤}
 use Rattle.gixobj_fields.proofs.Runs as runs
-use Rattle.gixobj_fields.proofs.Runs.{passes_one, yields_passed}
-use Rattle.gixobj_fields.specs.Runs.{Ending, HasNoPiece, Passes, broken, complete, yields_end, yields_error, yields_piece}
+use Rattle.gixobj_fields.proofs.Runs.{begins_with_pieces_snoc, yields_of_begins_with_pieces}
+use Rattle.gixobj_fields.specs.Runs.{Ending, HasNoPiece, BeginsWithPieces, broken, complete, yields_end, yields_error, yields_piece}
 use Rattle.gixobj_hash.specs.declared.hash.kind.Kind.{Kind}
 use Rattle.gixobj_tree.specs.Entries.{EntryView}
 use Rattle.gixobj_tree.proofs.OneEntry.{entry_unique, entry_rest_len_lt}
@@ -56,44 +56,45 @@ tree_unique kind bytes a b first second = (entry_run_unique kind bytes a b compl
 -- ---- entries that were decoded in order
 
 -- the input begins with the encodings of these entries, and the rest follows
-abbrev pub PassesEntries : Kind → List ℕ → List EntryView → List ℕ → Type 0
-PassesEntries kind input entries rest = Passes (EntryStep kind) tt input entries tt rest
+abbrev pub BeginsWithEntries : Kind → List ℕ → List EntryView → List ℕ → Type 0
+BeginsWithEntries kind input entries rest = BeginsWithPieces (EntryStep kind) tt input entries tt rest
 
-pub passes_entries_nil : (kind : Kind) (input : List ℕ) → PassesEntries kind input [] input
-passes_entries_nil kind input = (refl, refl)
+pub begins_with_entries_nil : (kind : Kind) (input : List ℕ) → BeginsWithEntries kind input [] input
+begins_with_entries_nil kind input = (refl, refl)
 
-pub passes_entries_snoc : (kind : Kind) (input after rest : List ℕ) (entries : List EntryView) (e : EntryView) → PassesEntries kind input entries after
-    → BeginsWithEntry kind after e rest → PassesEntries kind input (entries ++ e ∷ []) rest
-passes_entries_snoc kind input after rest entries e passed has = passes_one (EntryStep kind) tt tt tt input after rest entries e passed has
+pub begins_with_entries_snoc : (kind : Kind) (input after rest : List ℕ) (entries : List EntryView) (e : EntryView) → BeginsWithEntries kind input entries after
+    → BeginsWithEntry kind after e rest → BeginsWithEntries kind input (entries ++ e ∷ []) rest
+begins_with_entries_snoc kind input after rest entries e consumed has = begins_with_pieces_snoc
+    (EntryStep kind) tt tt tt input after rest entries e consumed has
 
-pub passes_entries_of_views : {X : Type 0} (view : X → EntryView) (kind : Kind) (input after rest : List ℕ) (xs new : List X) (x : X)
-    → PassesEntries kind input (map view xs) after → BeginsWithEntry kind after (view x) rest → new ≡ xs ++ x ∷ []
-    → PassesEntries kind input (map view new) rest
-passes_entries_of_views view kind input after rest xs new x passed has same =
-    rw (same, map-append view xs (x ∷ [])) (passes_entries_snoc kind input after rest (map view xs) (view x) passed has)
+pub begins_with_entries_of_views : {X : Type 0} (view : X → EntryView) (kind : Kind) (input after rest : List ℕ) (xs new : List X) (x : X)
+    → BeginsWithEntries kind input (map view xs) after → BeginsWithEntry kind after (view x) rest → new ≡ xs ++ x ∷ []
+    → BeginsWithEntries kind input (map view new) rest
+begins_with_entries_of_views view kind input after rest xs new x consumed has same =
+    rw (same, map-append view xs (x ∷ [])) (begins_with_entries_snoc kind input after rest (map view xs) (view x) consumed has)
 
 -- entries without a rest are a tree
-pub decodes_to_tree_at_end : (kind : Kind) (input rest : List ℕ) (entries : List EntryView) → rest ≡ [] → PassesEntries kind input entries rest
+pub decodes_to_tree_at_end : (kind : Kind) (input rest : List ℕ) (entries : List EntryView) → rest ≡ [] → BeginsWithEntries kind input entries rest
     → DecodesToTree kind input entries
-decodes_to_tree_at_end kind input rest entries bare passed =
+decodes_to_tree_at_end kind input rest entries bare consumed =
     let ends : YieldsEntries kind rest [] complete = rw bare (yields_end tt) in
-    decodes_to_tree_of_run kind input entries (yields_passed (EntryStep kind) tt tt input rest entries complete passed ends)
+    decodes_to_tree_of_run kind input entries (yields_of_begins_with_pieces (EntryStep kind) tt tt input rest entries complete consumed ends)
 
 no_piece_of_no_entry : (kind : Kind) (input : List ℕ) → BeginsWithNoEntry kind input → HasNoPiece (EntryStep kind) tt input
 no_piece_of_no_entry kind input none = λ e following rest has. none e rest has
 
 -- bytes are malformed if their rest begins with no entry
 pub malformed_tree_of_no_entry : (kind : Kind) (input rest : List ℕ) (entries : List EntryView) → rest ≢ [] → BeginsWithNoEntry kind rest
-    → PassesEntries kind input entries rest
+    → BeginsWithEntries kind input entries rest
     → IsMalformedTree kind input
-malformed_tree_of_no_entry kind input rest entries some none passed = λ others is.
+malformed_tree_of_no_entry kind input rest entries some none consumed = λ others is.
     let stops : YieldsEntries kind rest [] broken = yields_error tt rest some (no_piece_of_no_entry kind rest none) in
-    let run = yields_passed (EntryStep kind) tt tt input rest entries broken passed stops in
+    let run = yields_of_begins_with_pieces (EntryStep kind) tt tt input rest entries broken consumed stops in
     let same = entry_run_unique kind input entries others broken complete run (yields_entries_iff kind input others is) in
     cc same.1
 
 -- the input begins with an entry if one was decoded
-pub first_entry_exists : (kind : Kind) (input after rest : List ℕ) (entries : List EntryView) (e : EntryView) → PassesEntries kind input entries after
+pub first_entry_exists : (kind : Kind) (input after rest : List ℕ) (entries : List EntryView) (e : EntryView) → BeginsWithEntries kind input entries after
     → BeginsWithEntry kind after e rest → (first : EntryView) × (following : List ℕ) × BeginsWithEntry kind input first following
 first_entry_exists kind input after rest [] e (state, same) has = (e, rest, rw same has)
 first_entry_exists kind input after rest (first ∷ entries) e (next, following, it, more) has = (first, following, it)

@@ -109,12 +109,12 @@ pub entry_unique : (kind : Kind) (input : List ℕ) (a b : EntryView) (x y : Lis
 entry_unique kind input a b x y first second =
     let p = parted_of_begins kind input a x first in
     let q = parted_of_begins kind input b y second in
-    let cut = split_parts_unique 32 p.digits _ q.digits _ (octal_digits_space_free p.digits p.mode.octal) (octal_digits_space_free q.digits q.mode.octal)
+    let parts = split_parts_unique 32 p.digits _ q.digits _ (octal_digits_space_free p.digits p.mode.octal) (octal_digits_space_free q.digits q.mode.octal)
     (sym p.joined ∙ q.joined) in
-    let named = split_parts_unique 0 a.name _ b.name _ p.name q.name cut.1 in
+    let named = split_parts_unique 0 a.name _ b.name _ p.name q.name parts.1 in
     let lengths : length (id_bytes a.id) ≡ length (id_bytes b.id) = p.id.1 ∙ sym q.id.1 in
     let ids = append_split_unique (id_bytes a.id) x (id_bytes b.id) y lengths named.1 in
-    let modes : a.mode ≡ b.mode = p.mode.value ∙ ap mode_of_digits cut.0 ∙ sym q.mode.value in
+    let modes : a.mode ≡ b.mode = p.mode.value ∙ ap mode_of_digits parts.0 ∙ sym q.mode.value in
     let id : a.id ≡ b.id = id_bytes_injective kind a.id b.id p.id q.id ids.0 in (
       ap (λ (mode : ℕ). entry_of mode a.name a.id) modes ∙ ap (λ (name : List ℕ). entry_of b.mode name a.id) named.0
           ∙ ap (λ (it : ObjectId). entry_of b.mode b.name it) id,
@@ -202,5 +202,5 @@ pub no_entry_without_id : (kind : Kind) (input after from_name name from_id : Li
 no_entry_without_id kind input after from_name name from_id mode begun spaced split short = λ e rest has.
     let p = parted_of_begins kind input e rest has in
     let same = from_name_eq_name_and_id kind input after from_name mode e rest begun spaced p in
-    let cut = split_parts_unique 0 name from_id e.name (id_bytes e.id ++ rest) split.first p.name (sym split.joined ∙ same) in
-    omega (arith, short, p.id.1, ap length cut.1, length-append (id_bytes e.id) rest)
+    let parts = split_parts_unique 0 name from_id e.name (id_bytes e.id ++ rest) split.first p.name (sym split.joined ∙ same) in
+    omega (arith, short, p.id.1, ap length parts.1, length-append (id_bytes e.id) rest)

@@ -5,7 +5,7 @@ use gix_object::hash::Kind;
 use gix_object::{Tree, TreeRef, decode};
 use gix_object_tests::samples::id;
 use gixobj_callers::planner::is_tree;
-use gixobj_object_callers::store::{TakeError, read_back, taken_over, tree_copy_of};
+use gixobj_object_callers::store::{TakeError, round_trip, taken_over, tree_copy_of};
 use std::alloc::Global;
 
 /// The encoding of a tree with the file `test.txt`, as `git mktree` writes it.
@@ -13,7 +13,7 @@ const TREE: &[u8] =
     b"100644 test.txt\0\x83\xba\xae\x61\x80\x4e\x65\xcc\x73\xa7\x20\x1a\x72\x52\x75\x0c\x76\x06\x6a\x30";
 
 /// `TREE` without its last byte.
-const CUT: &[u8] =
+const TRUNCATED: &[u8] =
     b"100644 test.txt\0\x83\xba\xae\x61\x80\x4e\x65\xcc\x73\xa7\x20\x1a\x72\x52\x75\x0c\x76\x06\x6a";
 
 /// A blob. `HELLO_ID` is the id that `git hash-object` prints for it.
@@ -29,7 +29,7 @@ fn tree_of(alloc: Global, bytes: &[u8]) -> Result<Tree, decode::Error> {
 
 /// Whether a tree equals its decoded encoding.
 fn round_trips(alloc: Global, tree: &Tree) -> bool {
-    match read_back(alloc, tree, Kind::Sha1) {
+    match round_trip(alloc, tree, Kind::Sha1) {
         Ok(same) => same == *tree,
         Err(_) => false,
     }
@@ -44,12 +44,12 @@ fn decoded_tree_round_trips(alloc: Global, bytes: &[u8]) -> bool {
 }
 
 #[test]
-fn copies_tree_and_rejects_cut_one(rt: HostRuntime) {
+fn copies_tree_and_rejects_truncated_one(rt: HostRuntime) {
     let alloc = rt.alloc();
     assert!(rt; is_tree(TREE, Kind::Sha1));
-    assert!(rt; !is_tree(CUT, Kind::Sha1));
+    assert!(rt; !is_tree(TRUNCATED, Kind::Sha1));
     assert!(rt; is_copy(tree_copy_of(alloc, TREE, Kind::Sha1), TREE));
-    assert!(rt; tree_copy_of(alloc, CUT, Kind::Sha1).is_err());
+    assert!(rt; tree_copy_of(alloc, TRUNCATED, Kind::Sha1).is_err());
     assert!(rt; decoded_tree_round_trips(alloc, TREE));
 }
 

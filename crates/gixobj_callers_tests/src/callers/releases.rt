@@ -1,7 +1,7 @@
 //! Releases that are signed and audited. The runner answers only calls with the expected bytes
 //! (gitformat-signature).
 
-use super::CUT;
+use super::TRUNCATED;
 use bstr::{BString, ByteSlice};
 use gix_object::hash::Kind as HashKind;
 use gix_object::laws::{signed_commit_has_payload, signed_tag_has_payload};
@@ -380,5 +380,5 @@ fn calls_no_program_without_signed_release(rt: HostRuntime) {
     assert!(rt; is_audited_without_call(alloc, Kind::Commit, PLAIN, "no signature"));
     assert!(rt; is_audited_without_call(alloc, Kind::Tag, PLAIN_TAG, "no signature"));
     assert!(rt; is_audited_without_call(alloc, Kind::Blob, SIGNED, "no release"));
-    assert!(rt; is_audited_without_call(alloc, Kind::Commit, CUT, "malformed"));
+    assert!(rt; is_audited_without_call(alloc, Kind::Commit, TRUNCATED, "malformed"));
 }

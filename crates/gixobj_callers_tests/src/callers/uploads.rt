@@ -121,22 +121,22 @@ fn script(alloc: Global) -> Vec<Command> {
 }
 
 /// Compares the writes of the script at two positions.
-fn compare(alloc: Global, place: usize, other: usize) -> Result<bool, CompareError> {
+fn compare(alloc: Global, position: usize, other: usize) -> Result<bool, CompareError> {
     let commands = script(alloc);
     let store = Memory::new(alloc);
     let out = |tree: &Tree| tree.compute_id(alloc, Kind::Sha1);
-    wrote_the_same(alloc, store, Kind::Sha1, commands, place, other, out)
+    wrote_the_same(alloc, store, Kind::Sha1, commands, position, other, out)
 }
 
 /// Whether the writes of the script at two positions are the same. `None` if the comparison fails.
-fn compared(alloc: Global, place: usize, other: usize) -> Option<bool> {
-    compare(alloc, place, other).ok()
+fn compared(alloc: Global, position: usize, other: usize) -> Option<bool> {
+    compare(alloc, position, other).ok()
 }
 
 /// The position that the comparison reports as having no write.
-fn without_write(alloc: Global, place: usize, other: usize) -> Option<usize> {
-    match compare(alloc, place, other) {
-        Err(CompareError::NoWrite { place }) => Some(place),
+fn without_write(alloc: Global, position: usize, other: usize) -> Option<usize> {
+    match compare(alloc, position, other) {
+        Err(CompareError::NoWrite { position }) => Some(position),
         _ => None,
     }
 }
@@ -157,17 +157,17 @@ const WITH_B: &[u8] = b"5402bd8062856e83ade50b9be4aafcb8717cc232";
 const WITH_C: &[u8] = b"85a28e8cd9a95ec694f26a0ec14192e57fef1c9a";
 
 /// The root that the script writes at a position.
-fn rebuilt(alloc: Global, place: usize) -> Result<ObjectId, CompareError> {
+fn rebuilt(alloc: Global, position: usize) -> Result<ObjectId, CompareError> {
     let commands = script(alloc);
     let store = Memory::new(alloc);
     let out = |tree: &Tree| tree.compute_id(alloc, Kind::Sha1);
-    rebuild(alloc, store, Kind::Sha1, commands, place, out)
+    rebuild(alloc, store, Kind::Sha1, commands, position, out)
 }
 
 /// Whether the script has no write at a position.
-fn has_no_write(alloc: Global, place: usize) -> bool {
-    match rebuilt(alloc, place) {
-        Err(CompareError::NoWrite { place: at }) => at == place,
+fn has_no_write(alloc: Global, position: usize) -> bool {
+    match rebuilt(alloc, position) {
+        Err(CompareError::NoWrite { position: at }) => at == position,
         _ => false,
     }
 }

@@ -17,8 +17,8 @@ fn long_commit(alloc: Global) -> Result<String, AllocError> {
     format!(in alloc; "{tree}{parents}{actors}{headers}\nhi\n")
 }
 
-/// Returns whether both forms of a commit are written back as its input.
-fn is_written_back(alloc: Global, bytes: &[u8]) -> bool {
+/// Returns whether both forms of a commit are encoded as its input.
+fn both_forms_reencode(alloc: Global, bytes: &[u8]) -> bool {
     holds!(CommitRef::from_bytes(alloc, bytes, Kind::Sha1), Ok(commit) => is_written(alloc, &commit, bytes))
         && holds!(owned_form(alloc, bytes), Ok(commit) => is_written(alloc, &commit, bytes))
 }
@@ -29,17 +29,19 @@ fn has_counts(alloc: Global, bytes: &[u8], parents: usize, tokens: usize) -> boo
         && holds!(CommitRef::from_bytes(alloc, bytes, Kind::Sha1), Ok(commit) => commit.parents().count() == parents)
 }
 
-/// Returns whether the long commit is written back, with this length and these counts of parents and tokens.
+/// Returns whether the long commit re-encodes identically, with this length and these counts of parents and tokens.
 fn is_long_commit(alloc: Global, len: usize, parents: usize, tokens: usize) -> bool {
     let Ok(commit) = long_commit(alloc) else {
         return false;
     };
     let bytes = commit.as_bytes();
-    bytes.len() == len && is_written_back(alloc, bytes) && has_counts(alloc, bytes, parents, tokens)
+    bytes.len() == len
+        && both_forms_reencode(alloc, bytes)
+        && has_counts(alloc, bytes, parents, tokens)
 }
 
 #[test]
-fn writes_back_thousand_parents_and_headers(rt: HostRuntime) {
+fn reencodes_thousand_parents_and_headers(rt: HostRuntime) {
     assert!(rt; is_long_commit(rt.alloc(), 55_099, 1000, 2004));
 }
 

@@ -5,7 +5,7 @@ ghost use Rattle.std.specs.List.{AllZip};
 ghost use Rattle.std.proofs.lemmas.Iterator.{YieldsList};
 ghost use Rattle.bstr.specs.BStr.{bstr_bytes};
 ghost use Rattle.bstr.specs.declared.bstr.BStr.{BStr};
-ghost use Rattle.gixobj_commit.specs.ExtraHeaders.{FindsPlace, FindsValue, NextOfAll, IsFirstPlace, IsFirstValue, pair_of, searched, searched_name, values_named};
+ghost use Rattle.gixobj_commit.specs.ExtraHeaders.{FindsPosition, FindsValue, NextOfAll, IsFirstPosition, IsFirstValue, pair_of, searched, searched_name, values_named};
 ghost use Rattle.gixobj_commit.specs.RemainingHeaders.{remaining_headers, remaining_owned_headers};
 ghost use Rattle.gixobj_commit.specs.Mergetags.{NextMergetag, IsTagOf, IsTagOrNone, mergetag_kind, remaining_mergetags, tag_if_ok};
 ghost use Rattle.gixobj_commit.specs.declared.extra_headers.BorrowedHeaders.{BorrowedHeaders};
@@ -25,8 +25,8 @@ pub fn borrowed_header_search_complete()
         → FindsValue (YieldsFirstBy pair_of remaining_headers) name headers result
         → IsFirstValue name (remaining_headers headers) result }
     ensures position { (name : List ℕ) (headers : BorrowedHeaders) (result : Option ℕ)
-        → FindsPlace (YieldsFirstBy pair_of remaining_headers) name headers result
-        → IsFirstPlace name (remaining_headers headers) result }
+        → FindsPosition (YieldsFirstBy pair_of remaining_headers) name headers result
+        → IsFirstPosition name (remaining_headers headers) result }
     ensures values { (values : FindAll BorrowedHeaders)
         → YieldsList (NextOfAll (YieldsFirstBy pair_of remaining_headers)) bstr_bytes values
         (values_named (searched_name values) (remaining_headers (searched values))) }
@@ -41,8 +41,8 @@ pub fn owned_header_search_complete()
         → FindsValue (YieldsFirstBy pair_of remaining_owned_headers) name headers result
         → IsFirstValue name (remaining_owned_headers headers) result }
     ensures position { (name : List ℕ) (headers : OwnedHeaders) (result : Option ℕ)
-        → FindsPlace (YieldsFirstBy pair_of remaining_owned_headers) name headers result
-        → IsFirstPlace name (remaining_owned_headers headers) result }
+        → FindsPosition (YieldsFirstBy pair_of remaining_owned_headers) name headers result
+        → IsFirstPosition name (remaining_owned_headers headers) result }
     ensures values { (values : FindAll OwnedHeaders)
         → YieldsList (NextOfAll (YieldsFirstBy pair_of remaining_owned_headers)) bstr_bytes values
         (values_named (searched_name values) (remaining_owned_headers (searched values))) }
@@ -53,9 +53,10 @@ pub fn owned_header_search_complete()
 /// A run to the end yields, for each value, its tag or `Malformed`. Given for each value its tag, or that it
 /// is malformed, every run yields these tags, and an error for each malformed value.
 pub fn borrowed_mergetag_search_complete()
-    ensures yielded { (tags after : Mergetags BorrowedHeaders) (passed : List (Result TagRef Error))
-        → YieldsThen (NextMergetag (YieldsFirstBy pair_of remaining_headers)) tags passed None after
-        → AllZip (IsTagOf (mergetag_kind tags)) (remaining_mergetags remaining_headers tags) passed }
+    ensures yielded { (tags after : Mergetags BorrowedHeaders)
+        (consumed : List (Result TagRef Error))
+        → YieldsThen (NextMergetag (YieldsFirstBy pair_of remaining_headers)) tags consumed None after
+        → AllZip (IsTagOf (mergetag_kind tags)) (remaining_mergetags remaining_headers tags) consumed }
     ensures tags { (tags : Mergetags BorrowedHeaders) (read : List (Option TagLines))
         → AllZip (IsTagOrNone (mergetag_kind tags)) (remaining_mergetags remaining_headers tags) read
         → YieldsList (NextMergetag (YieldsFirstBy pair_of remaining_headers)) tag_if_ok tags read }
@@ -66,10 +67,10 @@ pub fn borrowed_mergetag_search_complete()
 /// A run to the end yields, for each value, its tag or `Malformed`. Given for each value its tag, or that it
 /// is malformed, every run yields these tags, and an error for each malformed value.
 pub fn owned_mergetag_search_complete()
-    ensures yielded { (tags after : Mergetags OwnedHeaders) (passed : List (Result TagRef Error))
-        → YieldsThen (NextMergetag (YieldsFirstBy pair_of remaining_owned_headers)) tags passed None
+    ensures yielded { (tags after : Mergetags OwnedHeaders) (consumed : List (Result TagRef Error))
+        → YieldsThen (NextMergetag (YieldsFirstBy pair_of remaining_owned_headers)) tags consumed None
         after → AllZip (IsTagOf (mergetag_kind tags)) (remaining_mergetags remaining_owned_headers tags)
-        passed }
+        consumed }
     ensures tags { (tags : Mergetags OwnedHeaders) (read : List (Option TagLines))
         → AllZip (IsTagOrNone (mergetag_kind tags)) (remaining_mergetags remaining_owned_headers tags) read
         → YieldsList (NextMergetag (YieldsFirstBy pair_of remaining_owned_headers)) tag_if_ok tags

@@ -21,13 +21,13 @@ hash_of true = hash.Sha1
 hash_of false = hash.Sha256
 
 -- the flag of a kind has that kind
-pub hash_back : (it : Kind) → hash_of (is_sha1 it) ≡ it
-hash_back hash.Sha1 = refl
-hash_back hash.Sha256 = refl
+pub hash_of_is_sha1 : (it : Kind) → hash_of (is_sha1 it) ≡ it
+hash_of_is_sha1 hash.Sha1 = refl
+hash_of_is_sha1 hash.Sha256 = refl
 
 -- the code of a kind
 abbrev pub hash_code : Coded Kind
-hash_code = code_by Bool coded_bool is_sha1 hash_of hash_back
+hash_code = code_by Bool coded_bool is_sha1 hash_of hash_of_is_sha1
 
 -- the flag of an id's kind, and the bytes of the id
 abbrev pub id_parts : ObjectId → Bool × List ℕ
@@ -40,13 +40,13 @@ id_from_parts (true, bytes) = id.Sha1 bytes
 id_from_parts (false, bytes) = id.Sha256 bytes
 
 -- the parts of an id make that id
-pub id_back : (it : ObjectId) → id_from_parts (id_parts it) ≡ it
-id_back (id.Sha1 bytes) = refl
-id_back (id.Sha256 bytes) = refl
+pub id_from_id_parts : (it : ObjectId) → id_from_parts (id_parts it) ≡ it
+id_from_id_parts (id.Sha1 bytes) = refl
+id_from_id_parts (id.Sha256 bytes) = refl
 
 -- the code of an id
 abbrev pub id_code : Coded ObjectId
-id_code = code_by (Bool × List ℕ) (coded× coded_bool (coded_list coded_ℕ)) id_parts id_from_parts id_back
+id_code = code_by (Bool × List ℕ) (coded× coded_bool (coded_list coded_ℕ)) id_parts id_from_parts id_from_id_parts
 
 -- the code of an entry
 abbrev pub entry_code : Coded EntryView

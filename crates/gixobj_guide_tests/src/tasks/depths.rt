@@ -9,7 +9,7 @@ use std::alloc::{AllocError, Global};
 /// A path, and the mode and the id of the entry there.
 type Found = (BString, EntryMode, ObjectId);
 
-/// Lists the files below a tree with their paths. `None` if `max_trees` trees are too few.
+/// Lists the files below a tree with their paths. `None` if `max_trees` trees aren't enough.
 pub fn files_below<S: Find>(
     alloc: Global,
     store: &S,

@@ -36,10 +36,10 @@ pub fn read_objects<R: BufRead>(alloc: Global, input: &mut R) -> Result<Memory> 
 
 /// Decodes a line such as `ce013625030ba8dba906f756967f9e9ca394464a blob 6`.
 fn header_of(line: &str) -> Option<(ObjectId, Kind, u64)> {
-    let mut words = line.split_whitespace();
-    let id = ObjectId::from_hex(words.next()?.as_bytes())?;
-    let kind = Kind::from_name(words.next()?.as_bytes())?;
-    let size = words.next()?.parse().ok()?;
+    let mut tokens = line.split_whitespace();
+    let id = ObjectId::from_hex(tokens.next()?.as_bytes())?;
+    let kind = Kind::from_name(tokens.next()?.as_bytes())?;
+    let size = tokens.next()?.parse().ok()?;
     Some((id, kind, size))
 }
 

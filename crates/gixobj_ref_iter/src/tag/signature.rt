@@ -18,8 +18,8 @@ impl<'a> TagRefIter<'a> {
         ensures found { IfSome result (FindsSignatureOfTag bytes.now) }
         ensures none { IfNone result (HasNoMarker bytes.now) }
     {
-        let (place, format) = find(bytes)?;
-        let (before, after) = bytes.split_at(place);
+        let (position, format) = find(bytes)?;
+        let (before, after) = bytes.split_at(position);
         let signature = SignatureRef {
             format,
             bytes: BStr::new(after),

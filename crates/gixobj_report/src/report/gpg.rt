@@ -193,7 +193,7 @@ fn reported_by_one(alloc: Global, status: Status, rest: &[u8]) -> Result<LineRep
 }
 
 /// Splits the line at the first space. Without one, the second part is empty.
-#[tactic(auto, using(crate::proofs::FieldPlaces::first_token_of_split, crate::proofs::FieldPlaces::first_token_of_spaceless, crate::proofs::FieldPlaces::after_space_of_split, crate::proofs::FieldPlaces::after_space_of_spaceless))]
+#[tactic(auto, using(crate::proofs::FieldPositions::first_token_of_split, crate::proofs::FieldPositions::first_token_of_spaceless, crate::proofs::FieldPositions::after_space_of_split, crate::proofs::FieldPositions::after_space_of_spaceless))]
 fn split_at_space<'a>(line: &'a [u8]) -> (&'a [u8], &'a [u8])
     ensures token { result.0.now ≡ first_token line.now }
     ensures rest { result.1.now ≡ after_space line.now }
@@ -286,7 +286,7 @@ fn reported_field(
 }
 
 /// Returns a copy of the field with this number, unless it is missing or empty.
-#[tactic(auto, using(crate::proofs::FieldPlaces::field_at_eq, crate::proofs::Fields::field_at_not_none))]
+#[tactic(auto, using(crate::proofs::FieldPositions::field_at_eq, crate::proofs::Fields::field_at_not_none))]
 fn field_of(alloc: Global, line: &[u8], number: usize) -> Result<Option<BString>, OutOfMemory>
     ensures field { IfOk result (λ it. option_map bstring_bytes it
         ≡ field_at number (fields_of line.now)) }
@@ -299,7 +299,7 @@ fn field_of(alloc: Global, line: &[u8], number: usize) -> Result<Option<BString>
 }
 
 /// Returns the line from the field with this number on, or `None` if it has fewer fields.
-#[tactic(auto, using(crate::proofs::FieldPlaces::after_some_space_of_split, crate::proofs::FieldPlaces::after_some_space_of_spaceless, crate::proofs::FieldPlaces::after_spaces_step, crate::proofs::FieldPlaces::after_spaces_none, crate::proofs::FieldPlaces::after_spaces_zero))]
+#[tactic(auto, using(crate::proofs::FieldPositions::after_some_space_of_split, crate::proofs::FieldPositions::after_some_space_of_spaceless, crate::proofs::FieldPositions::after_spaces_step, crate::proofs::FieldPositions::after_spaces_none, crate::proofs::FieldPositions::after_spaces_zero))]
 fn fields_after<'a>(line: &'a [u8], number: usize) -> Option<&'a [u8]>
     ensures { option_map (λ it. it.now) result ≡ after_spaces number line.now }
 {
@@ -312,7 +312,7 @@ fn fields_after<'a>(line: &'a [u8], number: usize) -> Option<&'a [u8]>
 
 /// Returns the bytes after `number` spaces, or `None` if there are fewer. Fields are short, so each byte is
 /// tested.
-#[tactic(auto, using(crate::proofs::FieldPlaces::after_spaces_of_space, crate::proofs::FieldPlaces::after_spaces_of_byte, crate::proofs::FieldPlaces::after_spaces_of_nil, crate::proofs::FieldPlaces::after_spaces_zero))]
+#[tactic(auto, using(crate::proofs::FieldPositions::after_spaces_of_space, crate::proofs::FieldPositions::after_spaces_of_byte, crate::proofs::FieldPositions::after_spaces_of_nil, crate::proofs::FieldPositions::after_spaces_zero))]
 fn after_nth<'a>(line: &'a [u8], number: usize) -> Option<&'a [u8]>
     ensures { option_map (λ it. it.now) result ≡ after_spaces number line.now }
 {
@@ -329,7 +329,7 @@ fn after_nth<'a>(line: &'a [u8], number: usize) -> Option<&'a [u8]>
 }
 
 /// Returns the bytes before the first space, or all without one.
-#[tactic(auto, using(crate::proofs::FieldPlaces::first_token_of_split, crate::proofs::FieldPlaces::first_token_of_spaceless))]
+#[tactic(auto, using(crate::proofs::FieldPositions::first_token_of_split, crate::proofs::FieldPositions::first_token_of_spaceless))]
 fn first_token_of<'a>(line: &'a [u8]) -> &'a [u8]
     ensures { result.now ≡ first_token line.now }
 {

@@ -26,7 +26,7 @@ use std::alloc::Global;
 ///
 /// [`OutOfMemory`] if the allocation for one of these copies fails, which requires output of at least one
 /// byte.
-#[tactic(auto, using(crate::proofs::LastPlaces::output_not_nil_of_key))]
+#[tactic(auto, using(crate::proofs::LastPositions::output_not_nil_of_key))]
 pub fn parse_ssh_output(
     alloc: Global,
     output: BString,
@@ -109,12 +109,12 @@ fn first_line_of(content: &[u8]) -> &[u8]
 
 /// Returns the bytes after the last ` key ` of a line, or `None` without one. The search goes backwards,
 /// space by space.
-#[tactic(auto, using(crate::proofs::LastPlaces::no_key_here, crate::proofs::LastPlaces::no_key_after_last, crate::proofs::LastPlaces::joined_here, crate::proofs::LastPlaces::inside_here, crate::proofs::LastPlaces::prefix_len_lt))]
+#[tactic(auto, using(crate::proofs::LastPositions::no_key_here, crate::proofs::LastPositions::no_key_after_last, crate::proofs::LastPositions::joined_here, crate::proofs::LastPositions::inside_here, crate::proofs::LastPositions::prefix_len_lt))]
 fn after_last_key<'a>(line: &'a [u8]) -> Option<&'a [u8]>
     ensures { option_map (λ it. it.now) result ≡ after_last (codes " key ") line.now }
 {
     let mut remaining = line;
-    'places: while let Some((prefix, _)) = split_at_last_byte(remaining, b' ') {
+    'positions: while let Some((prefix, _)) = split_at_last_byte(remaining, b' ') {
         if let Some(rest) = after_at(line, prefix.len(), b" key ") {
             return Some(rest);
         }

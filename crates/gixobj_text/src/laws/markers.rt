@@ -11,7 +11,7 @@ pub fn signature_format_is_unique()
 
 /// Bytes have at most one marker position, with one format.
 pub fn marker_position_is_unique()
-    ensures { (bytes : List ℕ) (place place' : ℕ) (format format' : Format)
-        → IsMarkerPlace bytes place format → IsMarkerPlace bytes place' format' → (place ≡ place')
+    ensures { (bytes : List ℕ) (position position' : ℕ) (format format' : Format)
+        → IsMarkerPlace bytes position format → IsMarkerPlace bytes position' format' → (position ≡ position')
         × (format ≡ format') }
 {}

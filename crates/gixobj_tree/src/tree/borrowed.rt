@@ -67,7 +67,7 @@ impl<'a> TreeRef<'a> {
             (key_of (bstr_bytes name.entry) is_dir))
             (λ e. entry_key (entry_view e) ≡ key_of (bstr_bytes name.entry) is_dir) }
     {
-        match place_of(&self.entries, name.as_bytes(), is_dir) {
+        match position_of(&self.entries, name.as_bytes(), is_dir) {
             Ok(at) => Some(self.entries[at]),
             Err(_) => None,
         }
@@ -77,7 +77,7 @@ impl<'a> TreeRef<'a> {
 /// Finds the position of an entry that [`name_order`] finds equal, or the position to insert one. The
 /// binary search ends at the first such entry.
 #[inline(always)]
-fn place_of(entries: &[EntryRef<'_>], name: &[u8], is_dir: bool) -> Result<usize, usize>
+fn position_of(entries: &[EntryRef<'_>], name: &[u8], is_dir: bool) -> Result<usize, usize>
     ensures bound { IsSearchInRange result (length entries.now) }
     ensures position { IsBinarySearchResult (λ e. name_cmp (entry_view e).name
         (is_tree_mode (entry_view e).mode) name.now is_dir) entries.now result }

@@ -1,25 +1,25 @@
--- Each step passes one trailer.
+-- Each step consumes one trailer.
 use Rattle.std.proofs.Common.{arith, ◌-◌}
-use Rattle.gixobj_c.proofs.TrailerCalls.{allocation_of_next, no_trailer_of_passed, passed_next, passed_none, trailer_of_next}
+use Rattle.gixobj_c.proofs.TrailerCalls.{allocation_of_next, no_trailer_of_has_consumed, has_consumed_next, has_consumed_none, trailer_of_next}
 use Rattle.gixobj_c.proofs.trailers.trailer_at.Goals as goal
 
 pub loop-remaining-init : goal.loop-remaining-init
-loop-remaining-init c = (passed_none _ _ c.message_trailers-trailers.result c.message_trailers-trailers.ensures (omega arith), omega arith)
+loop-remaining-init c = (has_consumed_none _ _ c.message_trailers-trailers.result c.message_trailers-trailers.ensures (omega arith), omega arith)
 
 pub returns-in-None-clause-found : goal.returns-in-None-clause-found
-returns-in-None-clause-found c = no_trailer_of_passed _ _ c.args.index c.loop-remaining.trailers c.next.new.self c.loop-remaining.invariant.0
+returns-in-None-clause-found c = no_trailer_of_has_consumed _ _ c.args.index c.loop-remaining.trailers c.next.new.self c.loop-remaining.invariant.0
     c.in-None.ensures.steps (omega arith)
 
 pub loop-remaining-preserved-in-Some-Ok : goal.loop-remaining-preserved-in-Some-Ok
 loop-remaining-preserved-in-Some-Ok c = (
-  passed_next _ (c.args.index - c.loop-remaining.remaining) _ c.loop-remaining.trailers _ _ _ c.loop-remaining.invariant.0 c.in-Some-Ok.ensures.steps
+  has_consumed_next _ (c.args.index - c.loop-remaining.remaining) _ c.loop-remaining.trailers _ _ _ c.loop-remaining.invariant.0 c.in-Some-Ok.ensures.steps
       c.in-Some-Ok.field-0-is (omega (arith, c.loop-remaining.invariant.1, c.loop-remaining-test.true)),
   omega (arith, c.loop-remaining.invariant.1),
 )
 
 pub loop-remaining-preserved-in-Some-Ok-2 : goal.loop-remaining-preserved-in-Some-Ok-2
 loop-remaining-preserved-in-Some-Ok-2 c = (
-  passed_next _ (c.args.index - c.loop-remaining.remaining) _ c.loop-remaining.trailers _ _ _ c.loop-remaining.invariant.0 c.in-Some-Ok.ensures.steps
+  has_consumed_next _ (c.args.index - c.loop-remaining.remaining) _ c.loop-remaining.trailers _ _ _ c.loop-remaining.invariant.0 c.in-Some-Ok.ensures.steps
       c.in-Some-Ok.field-0-is (omega (arith, c.loop-remaining.invariant.1, c.loop-remaining-test.true)),
   omega (arith, c.loop-remaining.invariant.1),
 )
@@ -29,7 +29,7 @@ returns-in-Some-Ok-next-clause-found c = trailer_of_next _ (c.args.index - c.loo
     c.loop-remaining.invariant.0 c.in-Some-Ok-next.ensures.steps c.in-Some-Ok-next.field-0-is (omega (arith, c.loop-remaining-test.false))
 
 pub returns-in-None-next-clause-found : goal.returns-in-None-next-clause-found
-returns-in-None-next-clause-found c = no_trailer_of_passed _ _ c.args.index c.loop-remaining.trailers c.next-2.new.self c.loop-remaining.invariant.0
+returns-in-None-next-clause-found c = no_trailer_of_has_consumed _ _ c.args.index c.loop-remaining.trailers c.next-2.new.self c.loop-remaining.invariant.0
     c.in-None-next.ensures.steps
     (omega arith)
 

@@ -1,11 +1,11 @@
--- The trailers before the index that were passed, and those that remain.
+-- The consumed trailers, all before the index, and those that remain.
 use Rattle.std.proofs.Common.{◌≤◌, ◌-◌}
 use Rattle.bstr.specs.BStr.{bstr_bytes}
-use Rattle.gixobj_c.proofs.TrailerCalls.{HasPassed}
+use Rattle.gixobj_c.proofs.TrailerCalls.{HasConsumed}
 use Rattle.gixobj_c.proofs.trailers.trailer_at.Given as goal
 
 abbrev pub invariant-loop-remaining : goal.invariant-loop-remaining
-invariant-loop-remaining l = HasPassed (bstr_bytes l.fn.message) (l.fn.index - l.remaining) l.trailers × (l.remaining ≤ l.fn.index)
+invariant-loop-remaining l = HasConsumed (bstr_bytes l.fn.message) (l.fn.index - l.remaining) l.trailers × (l.remaining ≤ l.fn.index)
 
 abbrev pub decreases-loop-remaining : goal.decreases-loop-remaining
 decreases-loop-remaining l = l.remaining

@@ -16,7 +16,7 @@ returns-clause-files g c =
     let begun = new.state ∙ ap (λ (root : List EntryView). new_state root c.args.store c.args.object_hash) c.empty.ensures in
     let ran = c.in_ok-replies.ensures {u = tt} in
     rebuilt_of_result model answers c.args.store c.args.object_hash c.args.commands.items c.new-editor.result c.run.new.editor c.in_ok-replies.replies.items
-    c.args.place begun ran.replies _ c.empty.ensures new.files new.has_bases ran.files_of_root c.deref.result.now c.deref-2.result.now c.deref-3.result.now
+    c.args.position begun ran.replies _ c.empty.ensures new.files new.has_bases ran.files_of_root c.deref.result.now c.deref-2.result.now c.deref-3.result.now
     c.deref.ensures.value c.deref-2.ensures.value c.deref-3.ensures.value c.consistent_run_has_table.ensures c.run_table_agrees_with_writes.ensures
     c.id_written.result c.id_written.ensures.found
 
@@ -27,5 +27,5 @@ returns-clause-error g c =
     let new = c.new-editor.ensures in
     let begun = new.state ∙ ap (λ (root : List EntryView). new_state root c.args.store c.args.object_hash) c.empty.ensures in
     error_of_result model answers c.args.store c.args.object_hash c.args.commands.items c.new-editor.result c.run.new.editor c.in_ok-replies.replies.items
-    c.args.place begun (c.in_ok-replies.ensures {u = tt}).replies c.deref-3.result.now c.deref-3.ensures.value c.id_written.result c.id_written.ensures.error
+    c.args.position begun (c.in_ok-replies.ensures {u = tt}).replies c.deref-3.result.now c.deref-3.ensures.value c.id_written.result c.id_written.ensures.error
     c.id_written.ensures.none

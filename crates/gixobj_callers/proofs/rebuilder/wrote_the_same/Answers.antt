@@ -15,7 +15,7 @@ returns-in-Err-clause-error g c =
     let new = c.new-editor.ensures in
     let begun = new.state ∙ ap (λ (root : List EntryView). new_state root c.args.store c.args.object_hash) c.empty.ensures in
     none_at_first model answers c.args.store c.args.object_hash c.args.commands.items c.new-editor.result c.run.new.editor c.in_ok-replies.replies.items
-    c.deref.result.now c.args.place c.args.other c.in-Err.error begun
+    c.deref.result.now c.args.position c.args.other c.in-Err.error begun
     (c.in_ok-replies.ensures {u = tt}).replies c.deref.ensures.value c.in-Err.ensures.error c.in-Err.ensures.none
 
 pub returns-in-Err-id_written-clause-error : goal.returns-in-Err-id_written-clause-error
@@ -25,7 +25,7 @@ returns-in-Err-id_written-clause-error g c =
     let new = c.new-editor.ensures in
     let begun = new.state ∙ ap (λ (root : List EntryView). new_state root c.args.store c.args.object_hash) c.empty.ensures in
     none_at_second model answers c.args.store c.args.object_hash c.args.commands.items c.new-editor.result c.run.new.editor c.in_ok-replies.replies.items
-    c.deref.result.now c.deref-2.result.now c.args.place c.args.other c.in-Ok.first c.in-Err-id_written.error begun
+    c.deref.result.now c.deref-2.result.now c.args.position c.args.other c.in-Ok.first c.in-Err-id_written.error begun
     (c.in_ok-replies.ensures {u = tt}).replies c.deref.ensures.value c.deref-2.ensures.value c.in-Ok.ensures.found c.in-Err-id_written.ensures.error
     c.in-Err-id_written.ensures.none
 
@@ -36,6 +36,6 @@ returns-clause-compared g c =
     let new = c.new-editor.ensures in
     let begun = new.state ∙ ap (λ (root : List EntryView). new_state root c.args.store c.args.object_hash) c.empty.ensures in
     is_reported model answers c.args.store c.args.object_hash c.args.commands.items c.new-editor.result c.run.new.editor c.in_ok-replies.replies.items
-    c.deref.result.now c.deref-2.result.now c.args.place c.args.other c.are_same.result c.in-Ok.first c.in-Ok-id_written.second begun
+    c.deref.result.now c.deref-2.result.now c.args.position c.args.other c.are_same.result c.in-Ok.first c.in-Ok-id_written.second begun
     (c.in_ok-replies.ensures {u = tt}).replies (c.in_ok-replies.ensures {u = tt}).one_id c.deref.ensures.value c.deref-2.ensures.value c.in-Ok.ensures.found
     c.in-Ok-id_written.ensures.found c.are_same.ensures

@@ -8,7 +8,7 @@ returns-clause-divided g c =
     let wrote = (c.in_ok-written.ensures {u = tt}).written in
     is_divided_of_walk (open_dirs c.args.editor.now) (open_bases c.args.editor.now) c.in_ok-written.written.trees.items wrote.below
     c.in_ok-written.written.saved
-    c.in_ok-written.written.id wrote.own wrote.emitted wrote.last
+    c.in_ok-written.written.id wrote.written_tree wrote.emitted wrote.last
 
 pub returns-clause-files : goal.returns-clause-files
 returns-clause-files g c = λ T n has. let wrote = (c.in_ok-written.ensures {u = tt}).written in wrote.files T n has.pairs has.bases

@@ -22,7 +22,7 @@ returns-clause-weight c = weight_first
       tree = c.in_ok-tree.tree;
       next = 0;
       remaining = c.remaining-remaining.result;
-      own = c.new.result;
+      written_tree = c.new.result;
     })
     c.node.inside.entries c.node.inside.base (child_list c.node.inside.children) c.node.view_is c.in_ok-tree.ensures refl
     c.remaining-remaining.ensures.list

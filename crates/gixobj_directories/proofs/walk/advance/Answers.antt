@@ -1,5 +1,5 @@
 -- What a step of a write emits by its entry: the directory has ended, the directory of the entry begins, or the entry
--- is passed. They are the clauses of `advance`.
+-- is visited. They are the clauses of `advance`.
 use Rattle.std.proofs.Common.{◌≡◌, ◌∙◌, ◌+◌, ◌++◌, ◌<◌, ◌≤◌, ℕ, [], List, Ok, Err, get_or, length, refl, sym, ap, subst, arith, append-nil}
 use Rattle.std.specs.Fn.{CalledAt}
 use Rattle.std.specs.Option.{option_copied}
@@ -12,7 +12,7 @@ use Rattle.gixobj_open.specs.Nested.{base_side, entries_side}
 use Rattle.gixobj_directories.specs.WriteErrors.{EmitsEntry, IsWriteError, child_side}
 use Rattle.gixobj_directories.specs.declared.frames.Frame.{Frame}
 use Rattle.gixobj_directories.proofs.Emitting.{if_err_weaken, stopped_after_folds, stopped_at_call}
-use Rattle.gixobj_directories.proofs.BegunFrames.{emits_next_of_entry, has_come_passed, lighter_begun, lighter_passed, waits_for_child}
+use Rattle.gixobj_directories.proofs.BegunFrames.{emits_next_of_entry, has_come_visited, lighter_begun, lighter_visited, waits_for_child}
 use Rattle.gixobj_directories.proofs.TakenTrees.{adds_nil}
 use Rattle.gixobj_directories.proofs.walk.advance.Goals as goal
 
@@ -43,10 +43,10 @@ returns-in_err-inner-clause-error g c =
     let based = child_side base_side next in
     if_err_weaken c.from_residual.result _ _ c.from_residual.ensures.1
     (λ error is_error. subst (IsWriteError (λ f p h. CalledAt g.F.FnMut f p.1 (Ok p.0) h) (λ f tree x h. CalledAt g.F.FnMut f tree (Err x) h)
-    (EmitsNext f) c.args.out.now c.pass.new.out) (sym is_error)
+    (EmitsNext f) c.args.out.now c.visit_entry.new.out) (sym is_error)
     (stopped_after_folds (λ f p h. CalledAt g.F.FnMut f p.1 (Ok p.0) h) (λ f tree x h. CalledAt g.F.FnMut f tree (Err x) h)
     (λ inner. (kept : List EntryView) × (n : ℕ) × EmitsEntry inside based e inner kept n) (EmitsNext f)
-    c.args.out.now c.args.out.now c.pass.new.out [] refl
+    c.args.out.now c.args.out.now c.visit_entry.new.out [] refl
     (λ qs seen. emits_next_of_entry f e low is next r c.next_of.ensures.next c.next_of.ensures.following qs seen.0 seen.1 seen.2)
     c.in_err-inner.field-0.0 c.in_err-inner.ensures.error))
 
@@ -60,7 +60,7 @@ returns-in-Begins-clause-emitted g c =
     let next = option_copied c.next_of.result.0 in
     let r = c.next_of.result.1 in
     let node = c.in-Begins.inner.now in
-    let h : Frame = record { node = f.node; base = f.base; tree = f.tree; next = f.next; remaining = r; own = f.own } in
+    let h : Frame = record { node = f.node; base = f.base; tree = f.tree; next = f.next; remaining = r; written_tree = f.written_tree } in
     let ok = (rw c.in-Begins.is at (c.in_ok-inner.ensures {u = tt}).emitted) in (
       ok.0,
       [],
@@ -97,7 +97,7 @@ returns-in_err-append_unless_null-clause-error g c =
     let more = emits_next_of_entry f e low is next r c.next_of.ensures.next c.next_of.ensures.following ok.0 (entry_unless_null e c.in-Id.id) 0 ok.1 in
     if_err_weaken c.from_residual-in_err-append_unless_null.result _ _ c.from_residual-in_err-append_unless_null.ensures.1
     (stopped_at_call (λ f p h. CalledAt g.F.FnMut f p.1 (Ok p.0) h) (λ f tree x h. CalledAt g.F.FnMut f tree (Err x) h)
-    (EmitsNext f) c.args.out.now c.pass.new.out ok.0 more.0 ok.3 more.1)
+    (EmitsNext f) c.args.out.now c.visit_entry.new.out ok.0 more.0 ok.3 more.1)
 
 pub returns-clause-emitted : goal.returns-clause-emitted
 returns-clause-emitted g c =
@@ -108,8 +108,8 @@ returns-clause-emitted g c =
     let is : e ≡ get_or (held_entries f.tree) f.next e = c.index-entries-frame.is ∙ ap (λ xs. get_or xs f.next e) items in
     let next = option_copied c.next_of.result.0 in
     let r = c.next_of.result.1 in
-    let o = c.append_unless_null.new.own in
-    let h : Frame = record { node = f.node; base = f.base; tree = f.tree; next = f.next + 1; remaining = r; own = o } in
+    let o = c.append_unless_null.new.written_tree in
+    let h : Frame = record { node = f.node; base = f.base; tree = f.tree; next = f.next + 1; remaining = r; written_tree = o } in
     let ok = (rw c.in-Id.is at (c.in_ok-inner.ensures {u = tt}).emitted) in
     let kept = c.in_ok-append_unless_null.ensures {u = tt} in (
       ok.0,
@@ -118,7 +118,7 @@ returns-clause-emitted g c =
       ok.3,
       λ ps ts count come. let same : count + 0 ≡ count = omega arith in
           subst (λ k. HasCome h (ps ++ ok.0) (ts ++ child_leaf_trees next) k) same
-          (has_come_passed f e low is next r c.next_of.ensures.next c.next_of.ensures.following c.next_of.ensures.filled o ok.0
+          (has_come_visited f e low is next r c.next_of.ensures.next c.next_of.ensures.following c.next_of.ensures.filled o ok.0
           (entry_unless_null e c.in-Id.id) 0 ok.1 kept.entries kept.shares_base ps ts count come),
     )
 
@@ -131,4 +131,4 @@ returns-clause-lighter g c =
     let is : e ≡ get_or (held_entries f.tree) f.next e = c.index-entries-frame.is ∙ ap (λ xs. get_or xs f.next e) items in
     let next = option_copied c.next_of.result.0 in
     let r = c.next_of.result.1 in
-    lighter_passed f e low is next r c.next_of.ensures.next c.next_of.ensures.following c.append_unless_null.new.own
+    lighter_visited f e low is next r c.next_of.ensures.next c.next_of.ensures.following c.append_unless_null.new.written_tree

@@ -1,4 +1,5 @@
--- The loop of a write over its frames meets its contract: each begins, waits, ends and is resumed.
+-- The loop of a write over its frames emits the trees below a directory: each frame begins, waits, ends and is resumed.
+-- They are the clauses of `emit_below`.
 use Rattle.std.proofs.Common.{◌≡◌, ◌∙◌, ◌++◌, [], Ok, Err, refl, sym, ap, subst, arith}
 use Rattle.std.specs.Prelude.{reverse}
 use Rattle.std.specs.Fn.{CalledAt}
@@ -10,7 +11,7 @@ use Rattle.gixobj_directories.specs.WriteErrors.{IsWriteError}
 use Rattle.gixobj_directories.specs.declared.frames.Frame.{Frame}
 use Rattle.gixobj_directories.proofs.Emitting.{callable_after_folds, if_err_weaken, stopped_at_call}
 use Rattle.gixobj_directories.proofs.BegunFrames.{storable_of_ended}
-use Rattle.gixobj_directories.proofs.WaitingFrames.{EmitsAt, adds_of_ended, called_of_ended, counted_of_ended, emits_at_exists, emits_of_ended, frames_weight, frames_weight_pop, memory_before_begun, memory_of_ended, reverse_push, stopped_in_resume, stopped_in_step, under_way_begun, under_way_ended, under_way_first, under_way_of_equal, under_way_passed, under_way_resumed, waits_of_parent}
+use Rattle.gixobj_directories.proofs.WaitingFrames.{EmitsAt, adds_of_ended, called_of_ended, counted_of_ended, emits_at_exists, emits_of_ended, frames_weight, frames_weight_pop, memory_before_begun, memory_of_ended, reverse_push, stopped_in_resume, stopped_in_step, under_way_begun, under_way_ended, under_way_first, under_way_of_equal, under_way_visited, under_way_resumed, waits_of_parent}
 use Rattle.gixobj_open.proofs.Ends.{nil_of_length}
 use Rattle.gixobj_directories.proofs.walk.emit_below.Goals as goal
 
@@ -37,12 +38,12 @@ returns-in_err-advance-clause-error g c =
     (stopped_in_step c.frames.invariant.so (λ f tree x h. CalledAt g.F.FnMut f tree (Err x) h) c.advance.new.out
     c.in_err-advance.field-0.0 (c.in_err-advance.ensures {u = tt}).error))
 
-pub frames-preserved-in-Passed : goal.frames-preserved-in-Passed
-frames-preserved-in-Passed g c =
+pub frames-preserved-in-Visited : goal.frames-preserved-in-Visited
+frames-preserved-in-Visited g c =
     let so = c.frames.invariant.so in
-    let ok = (rw c.in-Passed.is at (c.in_ok-advance.ensures {u = tt}).emitted) in
+    let ok = (rw c.in-Visited.is at (c.in_ok-advance.ensures {u = tt}).emitted) in
     record {
-      so = under_way_passed so c.advance.new.out c.advance.new.pairs.items c.advance.new.frame c.advance.ensures.node ok.0 ok.1 ok.2 ok.3 ok.4;
+      so = under_way_visited so c.advance.new.out c.advance.new.pairs.items c.advance.new.frame c.advance.ensures.node ok.0 ok.1 ok.2 ok.3 ok.4;
       callable = callable_after_folds _ (λ f p h. CalledAt g.F.FnMut f p.1 (Ok p.0) h) c.frames.out ok.0 c.advance.new.out ok.3 c.frames.invariant.callable;
     }
 

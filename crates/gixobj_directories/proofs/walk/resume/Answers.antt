@@ -1,10 +1,10 @@
 use Rattle.std.proofs.Common.{◌≡◌, ◌∙◌, ◌<◌, ℕ, [], List, Ok, Err, get_or, length, refl, sym, ap, subst}
 use Rattle.std.specs.Fn.{CalledAt}
 use Rattle.gixobj_tree.specs.Entries.{EntryView}
-use Rattle.gixobj_directories.specs.Frames.{EmitsAfter, EmitsOwn, held_entries, own_entries}
+use Rattle.gixobj_directories.specs.Frames.{EmitsAfter, EmitsWritten, held_entries, written_entries}
 use Rattle.gixobj_directories.specs.WriteErrors.{IsWriteError, entry_if_some}
 use Rattle.gixobj_directories.proofs.Emitting.{if_err_weaken, stopped_after_folds, stopped_at_call}
-use Rattle.gixobj_directories.proofs.BegunFrames.{emits_after_own, has_resumed, lighter_resumed, storable_of_ended}
+use Rattle.gixobj_directories.proofs.BegunFrames.{emits_after_written, has_resumed, lighter_resumed, storable_of_ended}
 use Rattle.gixobj_directories.proofs.walk.resume.Goals as goal
 
 pub bounds-entries-parent : goal.bounds-entries-parent
@@ -31,9 +31,9 @@ returns-in_err-id-clause-error g c =
     (λ error is_error. subst (IsWriteError (λ f p h. CalledAt g.F.FnMut f p.1 (Ok p.0) h) (λ f tree x h. CalledAt g.F.FnMut f tree (Err x) h)
     (EmitsAfter old done) c.args.out.now c.written_id.new.out) (sym is_error)
     (stopped_after_folds (λ f p h. CalledAt g.F.FnMut f p.1 (Ok p.0) h) (λ f tree x h. CalledAt g.F.FnMut f tree (Err x) h)
-    (λ more. (kept : List EntryView) × (n : ℕ) × EmitsOwn done.base.now e (own_entries done) more kept n) (EmitsAfter old done)
+    (λ more. (kept : List EntryView) × (n : ℕ) × EmitsWritten done.base.now e (written_entries done) more kept n) (EmitsAfter old done)
     c.args.out.now c.args.out.now c.written_id.new.out [] refl
-    (λ qs seen. emits_after_own old done e is c.requires.ended qs seen.0 seen.1 seen.2)
+    (λ qs seen. emits_after_written old done e is c.requires.ended qs seen.0 seen.1 seen.2)
     c.in_err-id.field-0.0 c.in_err-id.ensures.error))
 
 pub returns-in_err-append_unless_null-clause-error : goal.returns-in_err-append_unless_null-clause-error
@@ -44,7 +44,7 @@ returns-in_err-append_unless_null-clause-error g c =
     let is : e ≡ get_or (held_entries old.tree) old.next e =
     c.index-entries-parent.is ∙ ap (λ xs. get_or xs old.next e) c.entries-entries.ensures in
     let ok = (c.in_ok-id.ensures {u = tt}).emitted in
-    let more = emits_after_own old done e is c.requires.ended ok.0 (entry_if_some e c.in_ok-id.id) ok.1 ok.5 in
+    let more = emits_after_written old done e is c.requires.ended ok.0 (entry_if_some e c.in_ok-id.id) ok.1 ok.5 in
     if_err_weaken c.from_residual-in_err-append_unless_null.result _ _ c.from_residual-in_err-append_unless_null.ensures.1
     (stopped_at_call (λ f p h. CalledAt g.F.FnMut f p.1 (Ok p.0) h) (λ f tree x h. CalledAt g.F.FnMut f tree (Err x) h)
     (EmitsAfter old done) c.args.out.now c.written_id.new.out ok.0 more.0 ok.4 more.1)
@@ -63,9 +63,9 @@ returns-clause-emitted g c =
       ok.2,
       ok.3,
       ok.4,
-      has_resumed old done e is c.requires.ended ok.0 (entry_if_some e c.in_ok-id.id) ok.1 ok.5 c.append_unless_null.new.own kept.entries
+      has_resumed old done e is c.requires.ended ok.0 (entry_if_some e c.in_ok-id.id) ok.1 ok.5 c.append_unless_null.new.written_tree kept.entries
           kept.shares_base,
     )
 
 pub returns-clause-lighter : goal.returns-clause-lighter
-returns-clause-lighter g c = lighter_resumed c.args.parent.now c.append_unless_null.new.own c.requires.waits.3.low
+returns-clause-lighter g c = lighter_resumed c.args.parent.now c.append_unless_null.new.written_tree c.requires.waits.3.low

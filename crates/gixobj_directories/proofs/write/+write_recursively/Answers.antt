@@ -14,7 +14,7 @@ use Rattle.gixobj_directories.proofs.Emitting.{emits_below_of_both, stopped_of_s
 use Rattle.gixobj_open.proofs.Levels.{in_part_of_child, is_level_set, becomes_of_set}
 use Rattle.gixobj_open.proofs.Steps.{names_of_nil, dirs_of_childless}
 use Rattle.gixobj_open.proofs.Pieces.{IsFound, is_changed, is_child, is_pieced_level_with_open, parts_with_open_same}
-use Rattle.gixobj_open.proofs.Steps.{path_based, path_down, place_down, place_unopened, written_deeper}
+use Rattle.gixobj_open.proofs.Steps.{path_based, path_down, dirs_down, unopened_without_child, written_deeper}
 use Rattle.gixobj_files.specs.Bases.{base_edited}
 use Rattle.gixobj_open.proofs.BaseSteps.{editing, set_moved}
 use Rattle.gixobj_open.proofs.Ordered.{level_names_apart}
@@ -54,14 +54,14 @@ write_recursively-requires g t c =
     let it = c.in-Some-position.ensures {u = tt} in
     let found : IsFound (bstring_bytes c.in-Some.name.now) c.node.inside.children _ _ c.at_mut-child.result.now =
     record { within = it.within; found = it.found; is = c.at_mut-child.ensures.value } in
-    let there = place_down c.args.node.now c.node.inside.entries (child_list c.node.inside.children) c.node.view_is (level_names_apart c.node.invariant.level)
+    let there = dirs_down c.args.node.now c.node.inside.entries (child_list c.node.inside.children) c.node.view_is (level_names_apart c.node.invariant.level)
     (names_of c.args.path.now)
     (names_of c.in-Some.rest.now) (ap names_of c.in-Some.ensures.cases.0) (is_child found) in
     λ κs lives. (search rules, (search rules, (search rules, (c.requires.callable, λ none. c.requires.is_open (there ∙ none)))))
 
 pub unreachable-requires : goal.unreachable-requires
 unreachable-requires g t c = c.requires.is_open
-    (place_unopened c.args.node.now c.node.inside.entries (child_list c.node.inside.children) c.node.view_is (level_names_apart c.node.invariant.level)
+    (unopened_without_child c.args.node.now c.node.inside.entries (child_list c.node.inside.children) c.node.view_is (level_names_apart c.node.invariant.level)
     (names_of c.args.path.now)
     (names_of c.in-Some.rest.now) (ap names_of c.in-Some.ensures.cases.0) (c.in_default-position.ensures {u = tt}).none)
 

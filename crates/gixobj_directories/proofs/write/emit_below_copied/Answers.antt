@@ -17,7 +17,8 @@ returns-in_err-entries-clause-error g c =
     let goes = leaf_tree_has_base_or_is_emitted c.args.node.now c.in-Some.tree.now some.0 some.1 some.2 in
     if_err_weaken c.from_residual-in_err-entries.result _ _ c.from_residual-in_err-entries.ensures.1
     (stopped_at_call (λ f p h. CalledAt g.F.FnMut f p.1 (Ok p.0) h) (λ f tree x h. CalledAt g.F.FnMut f tree (Err x) h)
-    (λ ps. (own : List EntryView) × (n : ℕ) × EmitsBelow (dirs_of c.args.node.now) (bases_of c.args.node.now) ps own n) c.args.out.now c.args.out.now []
+    (λ ps. (written_tree : List EntryView) × (n : ℕ) × EmitsBelow (dirs_of c.args.node.now) (bases_of c.args.node.now) ps written_tree n) c.args.out.now
+    c.args.out.now []
     [] refl
     (c.in-Some.tree.now, 0, goes.found))
 
@@ -45,5 +46,5 @@ returns-in_err-leaf-clause-error g c =
     let rest = walk_exists_of_open node root.0 in
     if_err_weaken c.from_residual.result _ _ c.from_residual.ensures.1
     (stopped_at_call (λ f p h. CalledAt g.F.FnMut f p.1 (Ok p.0) h) (λ f tree x h. CalledAt g.F.FnMut f tree (Err x) h)
-    (λ ps. (own : List EntryView) × (n : ℕ) × EmitsBelow (dirs_of node) (bases_of node) ps own n) c.args.out.now c.args.out.now [] rest.0 refl
+    (λ ps. (written_tree : List EntryView) × (n : ℕ) × EmitsBelow (dirs_of node) (bases_of node) ps written_tree n) c.args.out.now c.args.out.now [] rest.0 refl
     (rest.1, rest.2, of_entries (dirs_of node) (bases_of node) root.0 _ _ _ root.1 rest.3))

@@ -8,7 +8,7 @@ use Rattle.gixobj_files.specs.Opening.{in_path}
 use Rattle.gixobj_directories.specs.Calls.{names_of}
 use Rattle.gixobj_open.specs.Nested.{base_side, bases_of, dirs_of, entries_side}
 use Rattle.gixobj_open.proofs.BaseSteps.{editing}
-use Rattle.gixobj_open.proofs.Descents.{ascent_unchanged, at_path_of_descent, bases_of_ascent, place_of_descent, written_of_ascent}
+use Rattle.gixobj_open.proofs.Descents.{ascent_unchanged, at_path_of_descent, bases_of_ascent, dirs_of_descent, written_of_ascent}
 use Rattle.gixobj_directories.proofs.Emitting.{emits_below_of_both, stopped_of_same_dirs}
 use Rattle.gixobj_directories.proofs.write.write_at.Goals as goal
 
@@ -18,7 +18,7 @@ ascend-requires g c = c.descend-descent.ensures.descended.are_above
 pub returns-clause-bases : goal.returns-clause-bases
 returns-clause-bases g c = MatchResult-weaker c.write_recursively-written.result c.write_recursively-written.ensures.bases (λ _ bases.
     let descent = c.descend-descent.result in
-    bases_of_ascent c.args.path.now descent.passed.now descent.rest.now c.descend-descent.ensures.path c.ascend.new.self c.write_recursively-written.new.node
+    bases_of_ascent c.args.path.now descent.consumed.now descent.rest.now c.descend-descent.ensures.path c.ascend.new.self c.write_recursively-written.new.node
     c.descend-descent.ensures.descended c.ascend.ensures base_edited editing bases) (λ _ u. u)
 
 pub returns-clause-unchanged : goal.returns-clause-unchanged
@@ -32,9 +32,9 @@ returns-clause-error g c = MatchResult-weaker c.write_recursively-written.result
     let path = names_of c.args.path.now in
     let here = c.descend-descent.new.self in
     let same : in_path rest (dirs_of here) ≡ in_path path (dirs_of c.args.node.now) =
-    at_path_of_descent c.args.path.now descent.passed.now descent.rest.now c.descend-descent.ensures.path c.descend-descent.ensures.descended entries_side in
+    at_path_of_descent c.args.path.now descent.consumed.now descent.rest.now c.descend-descent.ensures.path c.descend-descent.ensures.descended entries_side in
     let same_bases : in_path rest (bases_of here) ≡ in_path path (bases_of c.args.node.now) =
-    at_path_of_descent c.args.path.now descent.passed.now descent.rest.now c.descend-descent.ensures.path c.descend-descent.ensures.descended base_side in
+    at_path_of_descent c.args.path.now descent.consumed.now descent.rest.now c.descend-descent.ensures.path c.descend-descent.ensures.descended base_side in
     stopped_of_same_dirs (λ f p h. CalledAt g.F.FnMut f p.1 (Ok p.0) h) (λ f tree x h. CalledAt g.F.FnMut f tree (Err x) h) (in_path rest (dirs_of here))
     (in_path path (dirs_of c.args.node.now)) (in_path rest (bases_of here)) (in_path path (bases_of c.args.node.now)) same same_bases
     c.args.out.now c.write_recursively-written.new.out error stopped)
@@ -46,21 +46,21 @@ returns-clause-written g c = MatchResult-weaker c.write_recursively-written.resu
     let path = names_of c.args.path.now in
     let here = c.descend-descent.new.self in
     let same : in_path rest (dirs_of here) ≡ in_path path (dirs_of c.args.node.now) =
-    at_path_of_descent c.args.path.now descent.passed.now descent.rest.now c.descend-descent.ensures.path c.descend-descent.ensures.descended entries_side in
+    at_path_of_descent c.args.path.now descent.consumed.now descent.rest.now c.descend-descent.ensures.path c.descend-descent.ensures.descended entries_side in
     let same_bases : in_path rest (bases_of here) ≡ in_path path (bases_of c.args.node.now) =
-    at_path_of_descent c.args.path.now descent.passed.now descent.rest.now c.descend-descent.ensures.path c.descend-descent.ensures.descended base_side in (
+    at_path_of_descent c.args.path.now descent.consumed.now descent.rest.now c.descend-descent.ensures.path c.descend-descent.ensures.descended base_side in (
       ok.0,
       ok.1,
       (ok.2.0, emits_below_of_both _ _ _ _ same same_bases ok.0 ok.1 ok.2.0 ok.2.1, ok.2.2),
       ok.3,
       ok.4,
       ok.5,
-      written_of_ascent c.args.path.now descent.passed.now descent.rest.now c.descend-descent.ensures.path c.ascend.new.self
+      written_of_ascent c.args.path.now descent.consumed.now descent.rest.now c.descend-descent.ensures.path c.ascend.new.self
           c.write_recursively-written.new.node c.descend-descent.ensures.descended c.ascend.ensures (only_open ok.1) ok.6,
     )) (λ _ u. u)
 
 pub write_recursively-written-requires-clause-is_open : goal.write_recursively-written-requires-clause-is_open
 write_recursively-written-requires-clause-is_open g c =
     let descent = c.descend-descent.result in
-    λ none. c.requires.is_open (sym (place_of_descent c.args.path.now descent.passed.now descent.rest.now c.descend-descent.ensures.path
+    λ none. c.requires.is_open (sym (dirs_of_descent c.args.path.now descent.consumed.now descent.rest.now c.descend-descent.ensures.path
     c.descend-descent.ensures.descended) ∙ none)

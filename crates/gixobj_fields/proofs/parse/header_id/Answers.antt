@@ -13,5 +13,5 @@ pub returns-in_default-hex_hash-clause-none : goal.returns-in_default-hex_hash-c
 returns-in_default-hex_hash-clause-none c =
     no_id_of_other_hex c.args.name.now c.args.kind c.args.input.now c.in-Some.line.now c.in-Some-split_at_newline.value.now
     c.in-Some-split_at_newline.rest.now _
-    c.in-Some.ensures.found c.len_in_hex.ensures c.in-Some-split_at_newline.ensures.split c.in-Some-split_at_newline.ensures.placed
+    c.in-Some.ensures.found c.len_in_hex.ensures c.in-Some-split_at_newline.ensures.split c.in-Some-split_at_newline.ensures.position
     (λ hex. true≢false (sym (c.in_default-hex_hash.ensures.accepts.1 hex)))

@@ -16,7 +16,7 @@ loop-entry-init c = record {
   done = refl;
   apart = c.requires.apart;
   is_filtered = c.requires.filtered;
-  filled = recursion_from_All (λ (e : EntryView). IsFalse (is_null e.id)) c.args.own.now c.requires.non_null;
+  filled = recursion_from_All (λ (e : EntryView). IsFalse (is_null e.id)) c.args.written_tree.now c.requires.non_null;
 }
 
 pub loop-entry-preserved : goal.loop-entry-preserved

@@ -9,19 +9,19 @@ use Rattle.gixobj_hash.proofs.split.number_from_digits.Goals as goal
 pub returns-in_err-checked_mul : goal.returns-in_err-checked_mul
 returns-in_err-checked_mul c =
     let digits = c.args.digits.now in
-    let place = c.loop-digit.digit-index in
-    let more = digits_value_more 10 digits place c.loop-digit-test.true in
-    let prefix = digits_value_take_le digits (place + 1) in
+    let position = c.loop-digit.digit-index in
+    let more = digits_value_more 10 digits position c.loop-digit-test.true in
+    let prefix = digits_value_take_le digits (position + 1) in
     let spelled = c.loop-digit.invariant.spelled in
     rw c.from_residual.ensures (λ short. c.in_err-checked_mul.ensures (omega (arith, more, prefix, spelled, short)))
 
 pub returns-in_err-number : goal.returns-in_err-number
 returns-in_err-number c =
     let digits = c.args.digits.now in
-    let place = c.loop-digit.digit-index in
-    let more = digits_value_more 10 digits place c.loop-digit-test.true in
-    let prefix = digits_value_take_le digits (place + 1) in
-    let digit = digit_value_at digits place c.requires.1 c.loop-digit-test.true in
+    let position = c.loop-digit.digit-index in
+    let more = digits_value_more 10 digits position c.loop-digit-test.true in
+    let prefix = digits_value_take_le digits (position + 1) in
+    let digit = digit_value_at digits position c.requires.1 c.loop-digit-test.true in
     let spelled = c.loop-digit.invariant.spelled in
     rw c.from_residual-in_err-number.ensures
     (λ short. c.in_err-number.ensures (omega (arith, more, prefix, digit, spelled, short, c.from.ensures, c.in_ok-checked_mul.ensures)))

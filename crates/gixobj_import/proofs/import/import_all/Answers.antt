@@ -26,7 +26,7 @@ loop-step-preserved g c =
           c.step-item.result c.in-Ok-step.it
           c.loop-step-test.true c.step-item.is inv.imported (c.in-Ok-step.ensures {u = tt}).imported);
       count = ap length c.push_reserved.ensures.items ∙ length-append c.loop-step.imported.items (c.in-Ok-step.it ∷ []) ∙ ap (λ n. n + 1) inv.count;
-      as_many = c.push_reserved.ensures.len ∙ ap (λ n. n + 1) inv.as_many;
+      same_count = c.push_reserved.ensures.len ∙ ap (λ n. n + 1) inv.same_count;
       room = omega (arith, inv.room, c.push_reserved.ensures.capacity);
     }
 

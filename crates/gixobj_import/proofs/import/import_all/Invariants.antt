@@ -8,6 +8,6 @@ abbrev pub invariant-loop-step : goal.invariant-loop-step
 invariant-loop-step g l = record {
   imported : AreImported (store_model g.S.Store.objects g.S.Store.may_fail) l.fn.importer (take l.step-index l.steps) l.imported.items l.importer;
   count : length l.imported.items ≡ l.step-index;
-  as_many : vec_len l.imported ≡ l.step-index;
+  same_count : vec_len l.imported ≡ l.step-index;
   room : length l.steps ≤ vec_capacity l.imported;
 }

@@ -18,8 +18,8 @@ returns c =
     ∙ ap (values_named (codes "mergetag")) (ap remaining_headers c.mergetags.ensures.headers ∙ c.extra_headers.ensures.headers) in
     let (items, (last, yielded, ends), (same, _)) = c.in_ok-tags.ensures.ran in
     let (after, none) = ends tt in
-    let passed = c.borrowed_mergetag_search_complete.ensures.yielded tags after items (last, yielded, none) in
-    let of_values = subst (λ (it : List (List ℕ)). AllZip (IsTagOf (mergetag_kind tags)) it items) values passed in
+    let tags_are = c.borrowed_mergetag_search_complete.ensures.yielded tags after items (last, yielded, none) in
+    let of_values = subst (λ (it : List (List ℕ)). AllZip (IsTagOf (mergetag_kind tags)) it items) values tags_are in
     let of_kind = subst (λ (it : Kind). AllZip (IsTagOf it) (values_named (codes "mergetag") (commit_lines c.args.commit.now).extra_headers) items)
     c.mergetags.ensures.hash_kind of_values in
     let of_items = subst (λ (it : List (Result TagRef Error)). AllZip (IsTagOf (hash_kind_of c.extra_headers.result))

@@ -10,10 +10,10 @@ returns-in-Err-clause-error c = λ entries is. tree_fails_for_room c.args.kind c
 
 pub returns-in-Ok-write_to_vec-clause-same_bytes : goal.returns-in-Ok-write_to_vec-clause-same_bytes
 returns-in-Ok-write_to_vec-clause-same_bytes c = λ entries own.
-    let back = c.tree_reencodes_identically.ensures.same_bytes c.args.kind c.args.bytes.now entries own in
-    let same = c.tree_decodes_uniquely.ensures.one_tree c.args.kind c.args.bytes.now entries (tree_entries c.in-Ok.tree) back.0 c.in-Ok.ensures.found in
+    let decoded = c.tree_reencodes_identically.ensures.same_bytes c.args.kind c.args.bytes.now entries own in
+    let same = c.tree_decodes_uniquely.ensures.one_tree c.args.kind c.args.bytes.now entries (tree_entries c.in-Ok.tree) decoded.0 c.in-Ok.ensures.found in
     c.in-Ok-write_to_vec.ensures.written ∙ ap (λ (it : List ℕ). it ++ encode_tree (tree_entries c.in-Ok.tree)) c.new-written.ensures.items
-    ∙ ap encode_tree (sym same) ∙ back.1
+    ∙ ap encode_tree (sym same) ∙ decoded.1
 
 pub returns-clause-error : goal.returns-clause-error
 returns-clause-error c = λ entries is.

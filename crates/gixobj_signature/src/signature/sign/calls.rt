@@ -5,20 +5,28 @@ ghost use Rattle.gixobj_signature.specs.Calls.{call_view, word_view};
 ghost use Rattle.gixobj_signature.specs.Signing.{gpg_call, leaving_call, literal_call, sign_options_view, path_call, ssh_call};
 
 use super::{Options, is_literal_ssh_key};
-use crate::signature::words::Piece::{File, Text};
-use crate::signature::words::{environment_of, git_words_of, push_words, words_with};
+use crate::signature::arguments::Piece::{File, Text};
+use crate::signature::arguments::{
+    arguments_with, environment_of, git_arguments_of, push_arguments,
+};
 use crate::signature::{Call, Word};
 use bstr::{BString, ByteSlice};
 use gixobj_hash::OutOfMemory;
 use std::alloc::Global;
 
 /// Makes the call of an OpenPGP or X.509 program, whose input is the payload.
+///
+/// Allocates the parts of the call.
+///
+/// # Errors
+///
+/// [`OutOfMemory`] if an allocation fails.
 pub fn gpg_call_of(alloc: Global, payload: &[u8], options: &Options) -> Result<Call, OutOfMemory>
     ensures { IfOk result (λ it. call_view it ≡ gpg_call (sign_options_view options.now) payload.now) }
 {
     let key = options.signing_key.as_bytes();
     let pieces = [Text(b"--status-fd=2"), Text(b"-bsau"), Text(key)];
-    let words = words_with(alloc, &options.program_arguments, &pieces)?;
+    let words = arguments_with(alloc, &options.program_arguments, &pieces)?;
     Ok(Call {
         program: BString::from_slice(alloc, options.program.as_bytes())?,
         words,
@@ -30,6 +38,12 @@ pub fn gpg_call_of(alloc: Global, payload: &[u8], options: &Options) -> Result<C
 }
 
 /// Makes the call of an SSH program, which signs a file with the payload.
+///
+/// Allocates the parts of the call.
+///
+/// # Errors
+///
+/// [`OutOfMemory`] if an allocation fails.
 pub fn ssh_call_of(alloc: Global, payload: &[u8], options: &Options) -> Result<Call, OutOfMemory>
     ensures { IfOk result (λ it. call_view it ≡ ssh_call (sign_options_view options.now) payload.now) }
 {
@@ -43,9 +57,9 @@ pub fn ssh_call_of(alloc: Global, payload: &[u8], options: &Options) -> Result<C
 fn path_call_of(alloc: Global, payload: &[u8], options: &Options) -> Result<Call, OutOfMemory>
     ensures { IfOk result (λ it. call_view it ≡ path_call (sign_options_view options.now) payload.now) }
 {
-    let mut words = git_words_of(alloc, &options.program_arguments, b"sign")?;
+    let mut words = git_arguments_of(alloc, &options.program_arguments, b"sign")?;
     let key = options.signing_key.as_bytes();
-    push_words(alloc, &mut words, &[Text(b"-f"), Text(key), File(0)])?;
+    push_arguments(alloc, &mut words, &[Text(b"-f"), Text(key), File(0)])?;
     let files = vec![in alloc; BString::from_slice(alloc, payload)?]?;
     call_of(alloc, options, words, files, 0)
 }
@@ -60,9 +74,9 @@ fn literal_call_of(
     ensures { IfOk result (λ it. call_view it
         ≡ literal_call (sign_options_view options.now) key.now payload.now) }
 {
-    let mut words = git_words_of(alloc, &options.program_arguments, b"sign")?;
+    let mut words = git_arguments_of(alloc, &options.program_arguments, b"sign")?;
     let pieces = [Text(b"-f"), File(0), Text(b"-U"), File(1)];
-    push_words(alloc, &mut words, &pieces)?;
+    push_arguments(alloc, &mut words, &pieces)?;
     let files = vec![in alloc;
         BString::from_slice(alloc, key)?,
         BString::from_slice(alloc, payload)?,

@@ -7,13 +7,13 @@ ghost use Rattle.gixobj_report.specs.Outcomes.{outcome_view};
 ghost use Rattle.gixobj_text.specs.declared.signature.Format.TheVariants as format;
 ghost use Rattle.gixobj_signature.specs.SignedBytes.{signed_bytes};
 ghost use Rattle.gixobj_signature.specs.Verifiers.{by_open_pgp, by_x509, program_of};
-ghost use Rattle.gixobj_signature.specs.VerifyingCalls.{open_pgp_call, open_pgp_words, full_call, x509_call, x509_words};
+ghost use Rattle.gixobj_signature.specs.VerifyingCalls.{open_pgp_call, open_pgp_arguments, full_call, x509_call, x509_arguments};
 ghost use Rattle.gixobj_signature.specs.Plans.{AllocatesForCalls};
 ghost use Rattle.gixobj_signature.specs.Verifying.{IsOutcomeOf, gpg_verified, gpg_verify_plan, reported, verify_plan, verify_view};
 
 use super::{Error, Program, run_call};
-use crate::signature::words::Piece::{File, Text};
-use crate::signature::words::{environment_of, words_with};
+use crate::signature::arguments::Piece::{File, Text};
+use crate::signature::arguments::{arguments_with, environment_of};
 use crate::signature::{Call, Output, Runner, SignedData, Word};
 use bstr::{BString, ByteSlice};
 use gixobj_hash::OutOfMemory;
@@ -129,15 +129,15 @@ fn open_pgp_call_of(
     ensures { IfOk result (λ it. call_view it
         ≡ open_pgp_call (program_of by.now) signature.now (signed_bytes signed.now)) }
 {
-    let words = open_pgp_words_of(alloc, by)?;
+    let words = open_pgp_arguments_of(alloc, by)?;
     let files = vec![in alloc; BString::from_slice(alloc, signature)?]?;
     let input = Some(signed.to_bstring(alloc)?);
     call_of(alloc, by, words, files, input)
 }
 
 /// Makes the arguments of an OpenPGP program.
-fn open_pgp_words_of(alloc: Global, by: &Program) -> Result<Vec<Word>, OutOfMemory>
-    ensures { IfOk result (λ it. map word_view it.items ≡ open_pgp_words (program_of by.now)) }
+fn open_pgp_arguments_of(alloc: Global, by: &Program) -> Result<Vec<Word>, OutOfMemory>
+    ensures { IfOk result (λ it. map word_view it.items ≡ open_pgp_arguments (program_of by.now)) }
 {
     let pieces = [
         Text(b"--keyid-format=long"),
@@ -146,7 +146,7 @@ fn open_pgp_words_of(alloc: Global, by: &Program) -> Result<Vec<Word>, OutOfMemo
         File(0),
         Text(b"-"),
     ];
-    let words = words_with(alloc, &by.program_arguments, &pieces)?;
+    let words = arguments_with(alloc, &by.program_arguments, &pieces)?;
     Ok(words)
 }
 
@@ -161,7 +161,7 @@ fn x509_call_of(
     ensures { IfOk result (λ it. call_view it
         ≡ x509_call (program_of by.now) signature.now (signed_bytes signed.now)) }
 {
-    let words = x509_words_of(alloc, by)?;
+    let words = x509_arguments_of(alloc, by)?;
     let files = vec![in alloc;
         BString::from_slice(alloc, signature)?,
         signed.to_bstring(alloc)?,
@@ -170,11 +170,11 @@ fn x509_call_of(
 }
 
 /// Makes the arguments of an X.509 program.
-fn x509_words_of(alloc: Global, by: &Program) -> Result<Vec<Word>, OutOfMemory>
-    ensures { IfOk result (λ it. map word_view it.items ≡ x509_words (program_of by.now)) }
+fn x509_arguments_of(alloc: Global, by: &Program) -> Result<Vec<Word>, OutOfMemory>
+    ensures { IfOk result (λ it. map word_view it.items ≡ x509_arguments (program_of by.now)) }
 {
     let pieces = [Text(b"--status-fd=1"), Text(b"--verify"), File(0), File(1)];
-    let words = words_with(alloc, &by.program_arguments, &pieces)?;
+    let words = arguments_with(alloc, &by.program_arguments, &pieces)?;
     Ok(words)
 }
 

@@ -7,9 +7,9 @@ use Rattle.gixobj_sorted.proofs.pieces.find_in.Goals as goal
 pub returns-in-Ok : goal.returns-in-Ok
 returns-in-Ok g c =
     let seen = c.in-Ok.ensures {u = tt} in
-    ap Some c.index-piece-place.is
-    ∙ sym (find_of_found (item_key g.T.Named.name_of g.T.Named.is_tree_of) (key_of c.args.name.now c.args.is_tree) c.args.piece.now c.in-Ok.place c.requires
-    seen.position c.index-piece-place.result seen.within seen.found)
+    ap Some c.index-piece-index.is
+    ∙ sym (find_of_found (item_key g.T.Named.name_of g.T.Named.is_tree_of) (key_of c.args.name.now c.args.is_tree) c.args.piece.now c.in-Ok.index c.requires
+    seen.position c.index-piece-index.result seen.within seen.found)
 
 pub returns-in-Err : goal.returns-in-Err
 returns-in-Err g c =

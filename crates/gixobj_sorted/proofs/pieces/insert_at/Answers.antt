@@ -1,4 +1,5 @@
--- What the insertion makes of the one piece, it makes of the list.
+-- What the insertion makes of the one piece, it makes of the list, in the first piece or another one. They are the
+-- clauses of `insert_at`.
 use Rattle.std.proofs.Common.{◌∙◌, ◌-◌, ◌<◌, ◌++◌, set, length, length-append, sym, ap, subst, arith}
 use Rattle.std.specs.Prelude.{vec_capacity, vec_len}
 use Rattle.std.specs.List.{flat_map}

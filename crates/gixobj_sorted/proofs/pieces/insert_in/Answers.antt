@@ -8,7 +8,7 @@ pub returns-in-Ok-clause-items : goal.returns-in-Ok-clause-items
 returns-in-Ok-clause-items g c =
     let seen = c.in-Ok.ensures {u = tt} in
     set_of_own_found g.T.Named.name_of g.T.Named.is_tree_of c.args.item c.deref.result.now c.args.piece.now.items c.name.result.now c.is_tree.result
-    c.deref.ensures.value c.name.ensures c.is_tree.ensures c.in-Ok.place c.requires.ascending seen.position seen.within seen.found
+    c.deref.ensures.value c.name.ensures c.is_tree.ensures c.in-Ok.index c.requires.ascending seen.position seen.within seen.found
 
 pub returns-in-Err-clause-items : goal.returns-in-Err-clause-items
 returns-in-Err-clause-items g c =
@@ -16,7 +16,7 @@ returns-in-Err-clause-items g c =
     let ok : is_ok c.insert.result ≡ true = c.insert.ensures.succeeds (omega (arith, c.requires.has_capacity)) in
     (rw ok at c.insert.ensures.items)
     ∙ insert_of_own_none g.T.Named.name_of g.T.Named.is_tree_of c.args.item c.deref.result.now c.args.piece.now.items c.name.result.now c.is_tree.result
-    c.deref.ensures.value c.name.ensures c.is_tree.ensures c.in-Err.place c.requires.ascending seen.position seen.none
+    c.deref.ensures.value c.name.ensures c.is_tree.ensures c.in-Err.index c.requires.ascending seen.position seen.none
 
 pub returns-in-Err-clause-len : goal.returns-in-Err-clause-len
 returns-in-Err-clause-len g c =

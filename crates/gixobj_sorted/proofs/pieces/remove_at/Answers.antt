@@ -1,4 +1,5 @@
--- What the removal makes of the one piece, it makes of the list.
+-- What the removal makes of the one piece, it makes of the list, in the first piece or another one. They are the
+-- clauses of `remove_at`.
 use Rattle.std.proofs.Common.{◌≡◌, ◌∙◌, ◌-◌, ◌+◌, ◌<◌, ◌++◌, cond, set, length, length-append, refl, sym, ap, subst, arith}
 use Rattle.std.specs.List.{flat_map}
 use Rattle.std.proofs.lemmas.List.{get_or_default}

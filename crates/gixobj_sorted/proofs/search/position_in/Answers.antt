@@ -3,7 +3,7 @@ use Rattle.std.proofs.Common.{◌≡◌, ◌∙◌, ◌<◌, ◌≤◌, HoldsAt,
 use Rattle.std.specs.Ordering.{is_eq}
 use Rattle.gixobj_tree.specs.KeyOrder.{key_of}
 use Rattle.gixobj_sorted.specs.Pieces.{item_key, key_cmp}
-use Rattle.gixobj_sorted.proofs.BinarySearch.{IsNarrowed, halved_place, looked, narrowed_down, narrowed_none, narrowed_up}
+use Rattle.gixobj_sorted.proofs.BinarySearch.{IsNarrowed, binary_search_position, looked, narrowed_down, narrowed_none, narrowed_up}
 use Rattle.gixobj_sorted.proofs.search.position_in.Goals.{in-Less, in-Greater}
 use Rattle.gixobj_sorted.proofs.search.position_in.Given as given
 use Rattle.gixobj_sorted.proofs.search.position_in.Goals as goal
@@ -52,7 +52,7 @@ pub returns-in-Equal-clause-found : goal.returns-in-Equal-clause-found
 returns-in-Equal-clause-found g c = λ d. ap is_eq (equal_at_middle g c d)
 
 pub returns-in-Equal-clause-position : goal.returns-in-Equal-clause-position
-returns-in-Equal-clause-position g c = halved_place (item_key g.T.Named.name_of g.T.Named.is_tree_of) c.args.items.now c.requires
+returns-in-Equal-clause-position g c = binary_search_position (item_key g.T.Named.name_of g.T.Named.is_tree_of) c.args.items.now c.requires
     (key_of c.args.name.now c.args.is_tree) (Ok c.loop-low.middle) (middle_lt_len g c) (equal_at_middle g c)
 
 -- the search found no item
@@ -70,6 +70,6 @@ returns-clause-position g c =
     let xs = c.args.items.now in
     let key = item_key g.T.Named.name_of g.T.Named.is_tree_of in
     let k = key_of c.args.name.now c.args.is_tree in
-    halved_place key xs c.requires k (Err c.loop-low.low) (low_le_len g c)
+    binary_search_position key xs c.requires k (Err c.loop-low.low) (low_le_len g c)
     (narrowed_none key xs k c.loop-low.low (subst (IsNarrowed key xs k c.loop-low.low) (omega (arith, c.loop-low-test.false, c.loop-low.invariant.ordered))
     c.loop-low.invariant.narrowed))

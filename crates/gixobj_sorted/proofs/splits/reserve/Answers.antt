@@ -7,8 +7,8 @@ use Rattle.gixobj_sorted.proofs.Joined.{is_pieced_of_same_map, joined_of_same_ma
 use Rattle.gixobj_sorted.proofs.Keys.{is_ascending_of_append_right}
 use Rattle.gixobj_sorted.proofs.splits.reserve.Goals as goal
 
-pub piece_of-place-requires-clause-ascending : goal.piece_of-place-requires-clause-ascending
-piece_of-place-requires-clause-ascending g c =
+pub piece_of-position-requires-clause-ascending : goal.piece_of-position-requires-clause-ascending
+piece_of-position-requires-clause-ascending g c =
     let key = item_key g.T.Named.name_of g.T.Named.is_tree_of in
     subst (λ l. IsAscending key (flat_map (λ p. p.items) l)) (sym c.deref.ensures.value)
     (is_ascending_of_append_right key c.args.first.now.items _ c.requires.ascending)

@@ -2,8 +2,9 @@
 
 mod blocks;
 mod filters;
+mod git_generated;
+mod line_counts;
 mod lines;
-mod run;
 mod scan;
 mod trailer_lines;
 mod trailers;

@@ -40,14 +40,14 @@ fn some_body(body: &[u8]) -> Option<BStr<'_>>
 
 /// Returns the bytes from the first newline or carriage return on.
 #[inline(always)]
-#[tactic(auto, using(crate::proofs::Plain::is_from_break_at_place, crate::proofs::Plain::is_from_break_nil))]
+#[tactic(auto, using(crate::proofs::Plain::is_from_break_at_position, crate::proofs::Plain::is_from_break_nil))]
 fn from_break(bytes: &[u8]) -> &[u8]
     ensures value { IsFromBreak bytes.now result.now }
     ensures within { length result.now ≤ length bytes.now }
 {
     match bytes.find_byteset(b"\n\r") {
-        Some(place) => {
-            let (_, rest) = bytes.split_at(place);
+        Some(position) => {
+            let (_, rest) = bytes.split_at(position);
             rest
         }
         None => b"",
@@ -60,7 +60,7 @@ pub(super) fn message_title_and_body(message: &[u8]) -> (BStr<'_>, Option<BStr<'
     ensures { SplitsTitle message.now (bstr_bytes result.0) (bytes_if_some result.1) }
 {
     let mut rest = from_break(message);
-    'places: while let Some((_, after)) = rest.split_first() {
+    'positions: while let Some((_, after)) = rest.split_first() {
         if let Some(body) = skip_two_breaks(rest) {
             let title = &message[..message.len() - rest.len()];
             return (BStr::new(title), some_body(body));

@@ -44,9 +44,9 @@ fn split_newline(content: &[u8]) -> Option<(&[u8], &[u8])>
         × (length it.1.now < length content.now)) }
 {
     match content.find_byte(b'\n') {
-        Some(place) => {
-            let (piece, _) = content.split_at(place);
-            let (_, rest) = content.split_at(place + 1);
+        Some(position) => {
+            let (piece, _) = content.split_at(position);
+            let (_, rest) = content.split_at(position + 1);
             Some((piece, rest))
         }
         None => None,

@@ -7,7 +7,7 @@ abbrev pub invariant-loop-key : goal.invariant-loop-key
 invariant-loop-key g l = record {
   may_go_on : g.I.Iterator.can_next l.key-iterator;
   ends : IsFinite (g.I.Iterator.remaining l.key-iterator);
-  counted : l.place ≡ length l.yielded;
-  fits : l.place + size (g.I.Iterator.remaining l.key-iterator) ≤ size (g.I.Iterator.remaining l.fn.self.inner);
+  counted : l.index ≡ length l.yielded;
+  fits : l.index + size (g.I.Iterator.remaining l.key-iterator) ≤ size (g.I.Iterator.remaining l.fn.self.inner);
   others : HasNoHeaderNamed l.name (map pair_of l.yielded);
 }

@@ -1,4 +1,4 @@
-use Rattle.gixobj_commit.proofs.HeadersFound.{all_values, first_place, first_value}
+use Rattle.gixobj_commit.proofs.HeadersFound.{all_values, first_position, first_value}
 use Rattle.gixobj_commit.specs.RemainingHeaders.{remaining_owned_headers}
 use Rattle.gixobj_commit.proofs.laws.headers.owned_header_search_complete.Goals as goal
 
@@ -6,7 +6,7 @@ pub returns-clause-value : goal.returns-clause-value
 returns-clause-value c = first_value remaining_owned_headers
 
 pub returns-clause-position : goal.returns-clause-position
-returns-clause-position c = first_place remaining_owned_headers
+returns-clause-position c = first_position remaining_owned_headers
 
 pub returns-clause-values : goal.returns-clause-values
 returns-clause-values c = all_values remaining_owned_headers

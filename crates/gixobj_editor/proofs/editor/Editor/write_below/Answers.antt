@@ -41,7 +41,7 @@ returns-clause-written g c = if_ok_and c.write_at.result _ _ _ c.write_at.ensure
     c.args.out.now
     c.write_at.new.out
     (subst (λ (p : Path). Saves (in_path p (dirs_of s.root)) (in_path p (bases_of s.root)) ok.0 ok.1 it.saved) at ok.2) ok.3 ok.4 ok.5
-    (λ place. ok.6 place ∙ ap (λ (p : Path). with_path p (only_open ok.1) (dirs_of s.root) place) at) edited)
+    (λ location. ok.6 location ∙ ap (λ (p : Path). with_path p (only_open ok.1) (dirs_of s.root) location) at) edited)
 
 pub returns-clause-error : goal.returns-clause-error
 returns-clause-error g c =

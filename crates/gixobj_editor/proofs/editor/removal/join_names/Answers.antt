@@ -8,7 +8,8 @@ use Rattle.gixobj_editor.proofs.editor.removal.join_names.Goals as goal
 
 pub returns : goal.returns
 returns c =
-    let went = c.in_ok-bytes.ensures {u = tt} in
-    let end = went.3.1 in
-    let now_is = items_from_drains {v = λ y. y.now} went.1 (end.0, end.1, λ _. (went.3.0, end.2)) (YieldsList-from_slice c.args.path.now went.2.0) in
-    c.from.ensures ∙ went.4 ∙ ap (joined (slash ∷ [])) (sym (map-map bstring_bytes (λ y. y.now) went.1) ∙ ap (map bstring_bytes) now_is)
+    let joined_is = c.in_ok-bytes.ensures {u = tt} in
+    let end = joined_is.3.1 in
+    let now_is = items_from_drains {v = λ y. y.now} joined_is.1 (end.0, end.1, λ _. (joined_is.3.0, end.2))
+    (YieldsList-from_slice c.args.path.now joined_is.2.0) in
+    c.from.ensures ∙ joined_is.4 ∙ ap (joined (slash ∷ [])) (sym (map-map bstring_bytes (λ y. y.now) joined_is.1) ∙ ap (map bstring_bytes) now_is)

@@ -13,7 +13,7 @@ use Rattle.gixobj_open.proofs.Levels.{child_has_tree, in_part_of_child, is_level
 use Rattle.gixobj_open.proofs.Steps.{names_of_nil}
 use Rattle.gixobj_files.proofs.WrittenTrees.{on_err_of}
 use Rattle.gixobj_open.proofs.Pieces.{IsFound, is_changed, is_child, is_pieced_level_with_open, parts_with_open_same}
-use Rattle.gixobj_open.proofs.Steps.{ensured_deeper, ensured_dirs_nil, place_down, place_unopened}
+use Rattle.gixobj_open.proofs.Steps.{ensured_deeper, ensured_dirs_nil, dirs_down, unopened_without_child}
 use Rattle.gixobj_files.specs.Bases.{base_edited}
 use Rattle.gixobj_open.proofs.BaseSteps.{editing, with_moved, set_moved, unmoved}
 use Rattle.gixobj_open.proofs.Ordered.{level_names_apart}
@@ -81,19 +81,19 @@ returns-clause-unopened t c = MatchResult-weaker c.ensure_recursively.result c.e
     let it = c.in-Some-position.ensures {u = tt} in
     let found : IsFound (bstring_bytes c.in-Some.name.now) c.self.inside.children _ _ c.at_mut-child.result.now =
     record { within = it.within; found = it.found; is = c.at_mut-child.ensures.value } in
-    place_down c.args.self.now c.self.inside.entries (child_list c.self.inside.children) c.self.view_is (level_names_apart c.self.invariant.level)
+    dirs_down c.args.self.now c.self.inside.entries (child_list c.self.inside.children) c.self.view_is (level_names_apart c.self.invariant.level)
     (names_of c.args.path.now)
     (names_of c.in-Some.rest.now) (ap names_of c.in-Some.ensures.cases.0) (is_child found) ∙ closed)
 
 pub returns-in_err-inner-clause-unopened : goal.returns-in_err-inner-clause-unopened
 returns-in_err-inner-clause-unopened t c = on_err_of c.from_residual.result _
-    (place_unopened c.args.self.now c.self.inside.entries (child_list c.self.inside.children) c.self.view_is (level_names_apart c.self.invariant.level)
+    (unopened_without_child c.args.self.now c.self.inside.entries (child_list c.self.inside.children) c.self.view_is (level_names_apart c.self.invariant.level)
     (names_of c.args.path.now)
     (names_of c.in-Some.rest.now) (ap names_of c.in-Some.ensures.cases.0) (c.in_default-position.ensures {u = tt}).none)
 
 pub returns-in_err-add_directory-clause-unopened : goal.returns-in_err-add_directory-clause-unopened
 returns-in_err-add_directory-clause-unopened t c = on_err_of c.from_residual-in_err-add_directory.result _
-    (place_unopened c.args.self.now c.self.inside.entries (child_list c.self.inside.children) c.self.view_is (level_names_apart c.self.invariant.level)
+    (unopened_without_child c.args.self.now c.self.inside.entries (child_list c.self.inside.children) c.self.view_is (level_names_apart c.self.invariant.level)
     (names_of c.args.path.now)
     (names_of c.in-Some.rest.now) (ap names_of c.in-Some.ensures.cases.0) (c.in_default-position.ensures {u = tt}).none)
 

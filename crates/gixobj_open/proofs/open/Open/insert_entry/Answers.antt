@@ -13,8 +13,8 @@ use Rattle.gixobj_open.proofs.open.Open.insert_entry.Goals as goal
 pub insert_recursively-inserted-requires : goal.insert_recursively-inserted-requires
 insert_recursively-inserted-requires c =
     let descent = c.descend-descent.result in
-    all_of_rest IsEntryName (names_of descent.passed.now) (names_of descent.rest.now)
-    (subst (AllByRecursion IsEntryName) (names_of_parts c.args.path.now descent.passed.now descent.rest.now c.descend-descent.ensures.path) c.requires)
+    all_of_rest IsEntryName (names_of descent.consumed.now) (names_of descent.rest.now)
+    (subst (AllByRecursion IsEntryName) (names_of_parts c.args.path.now descent.consumed.now descent.rest.now c.descend-descent.ensures.path) c.requires)
 
 pub ascend-requires : goal.ascend-requires
 ascend-requires c = c.descend-descent.ensures.descended.are_above
@@ -23,14 +23,14 @@ pub returns-clause-dirs : goal.returns-clause-dirs
 returns-clause-dirs c = MatchResult-weaker c.insert_recursively-inserted.result c.insert_recursively-inserted.ensures.dirs (λ _ ok.
     let descent = c.descend-descent.result in
     let long : 0 < length c.args.path.now = omega arith in
-    upserted_of_ascent c.args.path.now descent.passed.now descent.rest.now c.descend-descent.ensures.path c.ascend.new.self
+    upserted_of_ascent c.args.path.now descent.consumed.now descent.rest.now c.descend-descent.ensures.path c.ascend.new.self
     c.insert_recursively-inserted.new.self c.descend-descent.ensures.descended c.ascend.ensures (mode_bits c.args.mode) c.args.id c.args.null
     (c.descend-descent.ensures.rest (non_empty_of_len c.args.path.now long)) ok) (λ _ u. u)
 
 pub returns-clause-bases : goal.returns-clause-bases
 returns-clause-bases c = MatchResult-weaker c.insert_recursively-inserted.result c.insert_recursively-inserted.ensures.bases (λ _ bases.
     let descent = c.descend-descent.result in
-    bases_of_ascent c.args.path.now descent.passed.now descent.rest.now c.descend-descent.ensures.path c.ascend.new.self
+    bases_of_ascent c.args.path.now descent.consumed.now descent.rest.now c.descend-descent.ensures.path c.ascend.new.self
     c.insert_recursively-inserted.new.self c.descend-descent.ensures.descended c.ascend.ensures
     base_edited editing bases) (λ _ u. u)
 

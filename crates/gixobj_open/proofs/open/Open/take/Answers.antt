@@ -11,12 +11,12 @@ pub returns-clause-dirs : goal.returns-clause-dirs
 returns-clause-dirs c =
     let descent = c.descend-descent.result in
     let long : 0 < length c.args.path.now = omega arith in
-    removed_of_ascent c.args.path.now descent.passed.now descent.rest.now c.descend-descent.ensures.path c.ascend.new.self c.take_recursively-2.new.self
+    removed_of_ascent c.args.path.now descent.consumed.now descent.rest.now c.descend-descent.ensures.path c.ascend.new.self c.take_recursively-2.new.self
     c.descend-descent.ensures.descended c.ascend.ensures (c.descend-descent.ensures.rest (non_empty_of_len c.args.path.now long))
     c.take_recursively-2.ensures.dirs
 
 pub returns-clause-bases : goal.returns-clause-bases
 returns-clause-bases c =
     let descent = c.descend-descent.result in
-    bases_of_ascent c.args.path.now descent.passed.now descent.rest.now c.descend-descent.ensures.path c.ascend.new.self c.take_recursively-2.new.self
+    bases_of_ascent c.args.path.now descent.consumed.now descent.rest.now c.descend-descent.ensures.path c.ascend.new.self c.take_recursively-2.new.self
     c.descend-descent.ensures.descended c.ascend.ensures base_edited editing c.take_recursively-2.ensures.bases

@@ -5,11 +5,13 @@ ghost use Rattle.bstr.specs.Owned.{bstring_bytes};
 ghost use Rattle.gixobj_signature.specs.Calls.{call_view, pair_view, word_view};
 ghost use Rattle.gixobj_signature.specs.SignedBytes.{signed_bytes};
 ghost use Rattle.gixobj_signature.specs.Verifiers.{ssh_of, ssh_program_of};
-ghost use Rattle.gixobj_signature.specs.VerifyingCalls.{in_english, novalidate_call, novalidate_words, principal_call, principal_words, principals_call, revocation_words, full_call};
+ghost use Rattle.gixobj_signature.specs.VerifyingCalls.{in_english, novalidate_call, novalidate_arguments, principal_call, principal_arguments, principals_call, revocation_arguments, full_call};
 
+use crate::signature::arguments::Piece::{File, Text, VerifyTime};
+use crate::signature::arguments::{
+    arguments_with, environment_of, git_arguments_of, pair_of, push_arguments,
+};
 use crate::signature::verify::SshProgram;
-use crate::signature::words::Piece::{File, Text, VerifyTime};
-use crate::signature::words::{environment_of, git_words_of, pair_of, push_words, words_with};
 use crate::signature::{Call, SignedData, Word};
 use bstr::{BString, ByteSlice};
 use gixobj_hash::OutOfMemory;
@@ -34,7 +36,7 @@ pub(crate) fn principals_call_of(
         File(0),
         VerifyTime(by.verify_time),
     ];
-    let words = words_with(alloc, &by.program_arguments, &pieces)?;
+    let words = arguments_with(alloc, &by.program_arguments, &pieces)?;
     let input = Some(BString::new(Vec::new(alloc)));
     call_of(alloc, by, words, signature, input)
 }
@@ -52,22 +54,22 @@ pub(crate) fn principal_call_of(
         ≡ principal_call (ssh_program_of by.now) (ssh_of by.now) signature.now
         (signed_bytes signed.now) principal.now) }
 {
-    let words = principal_words_of(alloc, by, principal)?;
+    let words = principal_arguments_of(alloc, by, principal)?;
     let words = with_revocation(alloc, words, &by.revocation_file)?;
     let input = Some(signed.to_bstring(alloc)?);
     call_of(alloc, by, words, signature, input)
 }
 
 /// Makes the arguments of `-Y verify`, without those of the revocation file.
-fn principal_words_of<'a>(
+fn principal_arguments_of<'a>(
     alloc: Global,
     by: &'a SshProgram,
     principal: &'a [u8],
 ) -> Result<Vec<Word>, OutOfMemory>
     ensures { IfOk result (λ it. map word_view it.items
-        ≡ principal_words (ssh_program_of by.now) (ssh_of by.now) principal.now) }
+        ≡ principal_arguments (ssh_program_of by.now) (ssh_of by.now) principal.now) }
 {
-    let mut words = git_words_of(alloc, &by.program_arguments, b"verify")?;
+    let mut words = git_arguments_of(alloc, &by.program_arguments, b"verify")?;
     let pieces = [
         Text(b"-f"),
         Text(by.allowed_signers.as_bytes()),
@@ -77,7 +79,7 @@ fn principal_words_of<'a>(
         File(0),
         VerifyTime(by.verify_time),
     ];
-    push_words(alloc, &mut words, &pieces)?;
+    push_arguments(alloc, &mut words, &pieces)?;
     Ok(words)
 }
 
@@ -93,19 +95,19 @@ pub(crate) fn novalidate_call_of(
         ≡ novalidate_call (ssh_program_of by.now) (ssh_of by.now) signature.now
         (signed_bytes signed.now)) }
 {
-    let words = novalidate_words_of(alloc, by)?;
+    let words = novalidate_arguments_of(alloc, by)?;
     let input = Some(signed.to_bstring(alloc)?);
     call_of(alloc, by, words, signature, input)
 }
 
 /// Makes the arguments of `-Y check-novalidate`.
-fn novalidate_words_of(alloc: Global, by: &SshProgram) -> Result<Vec<Word>, OutOfMemory>
+fn novalidate_arguments_of(alloc: Global, by: &SshProgram) -> Result<Vec<Word>, OutOfMemory>
     ensures { IfOk result (λ it. map word_view it.items
-        ≡ novalidate_words (ssh_program_of by.now) (ssh_of by.now)) }
+        ≡ novalidate_arguments (ssh_program_of by.now) (ssh_of by.now)) }
 {
-    let mut words = git_words_of(alloc, &by.program_arguments, b"check-novalidate")?;
+    let mut words = git_arguments_of(alloc, &by.program_arguments, b"check-novalidate")?;
     let pieces = [Text(b"-s"), File(0), VerifyTime(by.verify_time)];
-    push_words(alloc, &mut words, &pieces)?;
+    push_arguments(alloc, &mut words, &pieces)?;
     Ok(words)
 }
 
@@ -116,11 +118,11 @@ fn with_revocation(
     file: &Option<BString>,
 ) -> Result<Vec<Word>, OutOfMemory>
     ensures { IfOk result (λ it. map word_view it.items
-        ≡ map word_view words.items ++ revocation_words (option_map bstring_bytes file.now)) }
+        ≡ map word_view words.items ++ revocation_arguments (option_map bstring_bytes file.now)) }
 {
     let mut words = words;
     if let Some(path) = file {
-        push_words(alloc, &mut words, &[Text(b"-r"), Text(path.as_bytes())])?;
+        push_arguments(alloc, &mut words, &[Text(b"-r"), Text(path.as_bytes())])?;
     }
     Ok(words)
 }

@@ -1,4 +1,5 @@
--- `lookup_entry_by_path` finds the entry to which the names of the path lead, or fails with an error of that path.
+-- A lookup finds the entry to which the names of the path lead, or fails with an error of that path. They are the
+-- clauses of `lookup_entry_by_path` and of its loop.
 use Rattle.std.proofs.Common.{rules, ◌≡◌, None, Option, Some, refl, subst, sym}
 use Rattle.std.proofs.lemmas.Result.{err_from_is_err_and}
 use Rattle.std.specs.declared.ops.ControlFlow.TheVariants.{Break, Continue}

@@ -90,7 +90,7 @@ fn prefix_before<'a>(content: &'a [u8], rest: &[u8]) -> &'a [u8]
 }
 
 /// Skips the lines before the first trailer line.
-#[tactic(auto, using(crate::proofs::Steps::is_past_non_trailer_step, crate::proofs::Steps::is_at_trailer_at_end, crate::proofs::Steps::is_at_trailer_at_line))]
+#[tactic(auto, using(crate::proofs::Steps::has_consumed_non_trailer_step, crate::proofs::Steps::is_at_trailer_at_end, crate::proofs::Steps::is_at_trailer_at_line))]
 fn at_trailer(content: &[u8]) -> &[u8]
     ensures { IsAtTrailer content.now result.now }
 {
@@ -112,7 +112,7 @@ fn continues_trailer(line: &[u8]) -> bool
 }
 
 /// Skips the consecutive trailers at the start of the bytes.
-#[tactic(auto, using(crate::proofs::Steps::is_past_trailer_step, crate::proofs::Steps::is_after_trailers_at_end, crate::proofs::Steps::is_after_trailers_at_line))]
+#[tactic(auto, using(crate::proofs::Steps::has_consumed_trailer_step, crate::proofs::Steps::is_after_trailers_at_end, crate::proofs::Steps::is_after_trailers_at_line))]
 fn skip_trailers(content: &[u8]) -> &[u8]
     ensures { IsAfterTrailers content.now result.now }
 {

@@ -61,7 +61,7 @@ fn first_line_len(content: &[u8]) -> usize
         [b'\n', ..] => 1,
         [_, b'\n', ..] => 2,
         _ => match content.find_byte(b'\n') {
-            Some(place) => place + 1,
+            Some(position) => position + 1,
             None => content.len(),
         },
     }

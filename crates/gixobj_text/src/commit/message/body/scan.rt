@@ -5,14 +5,14 @@ ghost use Rattle.gixobj_text.specs.BodyLines.{is_blank, trimmed_line};
 ghost use Rattle.gixobj_text.specs.Scanned.{AddsLine, Scanned};
 ghost use Rattle.gixobj_text.specs.TrailerBlocks.{IsTrailerBlockStart};
 
+use crate::commit::message::body::line_counts::LineCounts;
 use crate::commit::message::body::lines::{is_blank_line, line_content, split_line};
-use crate::commit::message::body::run::Run;
 
 /// The state of a scan after some lines.
 #[derive(Clone, Copy, Debug)]
 pub(crate) struct Scan {
     /// The number of bytes of the lines.
-    place: usize,
+    position: usize,
     /// The offset after the content of the last line.
     last: usize,
     /// The start of a trailer block whose run begins at the next line.
@@ -24,40 +24,40 @@ pub(crate) struct Scan {
     /// Whether there is a run.
     some: bool,
     /// The counts of the last run.
-    run: Run,
+    run: LineCounts,
 }
 
 impl Scan {
     /// Returns the state before the first line.
     pub(crate) fn new() -> Scan
         ensures scanned { Scanned [] result }
-        ensures position { result.place ≡ 0 }
+        ensures position { result.position ≡ 0 }
         ensures trailers { result.run.trailers ≤ 0 }
         ensures others { result.run.others ≤ 0 }
     {
         Scan {
-            place: 0,
+            position: 0,
             last: 0,
             next: 0,
             start: 0,
             going: false,
             some: false,
-            run: Run::new(),
+            run: LineCounts::new(),
         }
     }
 
     /// Adds a blank line, whose content ends at `last`.
     #[inline(always)]
     fn with_blank(self, line: &[u8], last: usize) -> Scan
-        requires last { last ≡ self.place + length (trimmed_line line.now) }
+        requires last { last ≡ self.position + length (trimmed_line line.now) }
         requires blank { IsTrue (is_blank line.now) }
-        requires fits { self.place + length line.now < 2 ^ 64 }
+        requires fits { self.position + length line.now < 2 ^ 64 }
         ensures scanned { AddsLine self line.now result }
-        ensures position { result.place ≡ self.place + length line.now }
+        ensures position { result.position ≡ self.position + length line.now }
         ensures run { result.run ≡ self.run }
     {
         Scan {
-            place: self.place + line.len(),
+            position: self.position + line.len(),
             last,
             next: self.last,
             start: self.start,
@@ -70,19 +70,19 @@ impl Scan {
     /// Adds a line that continues the last run, and whose content ends at `last`.
     #[inline(always)]
     fn with_next(self, line: &[u8], last: usize) -> Scan
-        requires last { last ≡ self.place + length (trimmed_line line.now) }
+        requires last { last ≡ self.position + length (trimmed_line line.now) }
         requires not_blank { IsFalse (is_blank line.now) }
         requires proceeds { self.going ≡ true }
-        requires fits { self.place + length line.now < 2 ^ 64 }
+        requires fits { self.position + length line.now < 2 ^ 64 }
         requires trailers { self.run.trailers + 1 < 2 ^ 64 }
         requires others { self.run.others + 1 < 2 ^ 64 }
         ensures scanned { AddsLine self line.now result }
-        ensures position { result.place ≡ self.place + length line.now }
+        ensures position { result.position ≡ self.position + length line.now }
         ensures trailers { result.run.trailers ≤ self.run.trailers + 1 }
         ensures others { result.run.others ≤ self.run.others + 1 }
     {
         Scan {
-            place: self.place + line.len(),
+            position: self.position + line.len(),
             last,
             next: self.next,
             start: self.start,
@@ -95,23 +95,23 @@ impl Scan {
     /// Adds a line that begins a run, and whose content ends at `last`.
     #[inline(always)]
     fn with_first(self, line: &[u8], last: usize) -> Scan
-        requires last { last ≡ self.place + length (trimmed_line line.now) }
+        requires last { last ≡ self.position + length (trimmed_line line.now) }
         requires not_blank { IsFalse (is_blank line.now) }
         requires proceeds { self.going ≡ false }
-        requires fits { self.place + length line.now < 2 ^ 64 }
+        requires fits { self.position + length line.now < 2 ^ 64 }
         ensures scanned { AddsLine self line.now result }
-        ensures position { result.place ≡ self.place + length line.now }
+        ensures position { result.position ≡ self.position + length line.now }
         ensures trailers { result.run.trailers ≤ 1 }
         ensures others { result.run.others ≤ 1 }
     {
         Scan {
-            place: self.place + line.len(),
+            position: self.position + line.len(),
             last,
             next: self.next,
             start: self.next,
             going: true,
             some: true,
-            run: Run::new().with_line(line),
+            run: LineCounts::new().with_line(line),
         }
     }
 
@@ -119,16 +119,16 @@ impl Scan {
     #[inline(always)]
     fn with_line(self, line: &[u8]) -> Scan
         requires non_empty { line.now ≢ [] }
-        requires fits { self.place + length line.now < 2 ^ 64 }
-        requires trailers { self.run.trailers ≤ self.place }
-        requires others { self.run.others ≤ self.place }
+        requires fits { self.position + length line.now < 2 ^ 64 }
+        requires trailers { self.run.trailers ≤ self.position }
+        requires others { self.run.others ≤ self.position }
         ensures scanned { AddsLine self line.now result }
-        ensures position { result.place ≡ self.place + length line.now }
-        ensures trailers { result.run.trailers ≤ result.place }
-        ensures others { result.run.others ≤ result.place }
+        ensures position { result.position ≡ self.position + length line.now }
+        ensures trailers { result.run.trailers ≤ result.position }
+        ensures others { result.run.others ≤ result.position }
     {
         let content = line_content(line);
-        let last = self.place + content.len();
+        let last = self.position + content.len();
         if is_blank_line(content) {
             return self.with_blank(line, last);
         }

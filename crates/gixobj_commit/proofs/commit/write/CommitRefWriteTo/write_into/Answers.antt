@@ -1,4 +1,5 @@
--- The parts of the encoding are written one after the other.
+-- The parts of a borrowed commit, written one after the other, are its encoding, and an error is that of the first part
+-- that fails. They are the clauses of `write_into`.
 use Rattle.gixobj_hash.proofs.HexIds.{decoded_id_decodes}
 use Rattle.gixobj_hash.specs.Hash.Hex.{decoded_id}
 use Rattle.std.proofs.Common.{◌≡◌, ◌++◌, List, ℕ, [], ap, arith, codes, inl, length, length-append, refl, sym, ◌∙◌}

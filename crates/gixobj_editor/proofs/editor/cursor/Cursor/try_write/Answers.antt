@@ -9,11 +9,12 @@ invariant_of-self g c =
     let new = c.write_below.new.self in
     record {
       is_open = written_prefix_is_open c.write_below.result old new
-          (IfOk-weaker c.write_below.result _ _ (λ it went. (went.own, went.dirs)) c.write_below.ensures.written) c.write_below.ensures.unchanged
-          (write_keeps_prefix c.write_below.result old new (IfOk-weaker c.write_below.result _ _ (λ it went. went.rest) c.write_below.ensures.written)
+          (IfOk-weaker c.write_below.result _ _ (λ it emitted. (emitted.written_tree, emitted.dirs)) c.write_below.ensures.written)
+          c.write_below.ensures.unchanged
+          (write_keeps_prefix c.write_below.result old new (IfOk-weaker c.write_below.result _ _ (λ it emitted. emitted.rest) c.write_below.ensures.written)
           c.write_below.ensures.unchanged) c.args.self.now.is_open;
     }
 
 pub returns-clause-prefix : goal.returns-clause-prefix
 returns-clause-prefix g c = write_keeps_prefix c.write_below.result c.args.self.now.editor.now c.write_below.new.self
-    (IfOk-weaker c.write_below.result _ _ (λ it went. went.rest) c.write_below.ensures.written) c.write_below.ensures.unchanged
+    (IfOk-weaker c.write_below.result _ _ (λ it emitted. emitted.rest) c.write_below.ensures.written) c.write_below.ensures.unchanged

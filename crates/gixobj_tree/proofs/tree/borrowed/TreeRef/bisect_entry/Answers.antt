@@ -32,7 +32,7 @@ returns-in-Ok-clause-by_key c =
 
 pub returns-in-Err-clause-by_key : goal.returns-in-Err-clause-by_key
 returns-in-Err-clause-by_key c =
-    let searched = c.place_of in
+    let searched = c.position_of in
     let held = subst (λ (name : List ℕ). IsBinarySearchResult (compared entry_view name c.args.is_dir) c.deref.result.now searched.result) c.as_bytes.ensures
     searched.ensures.position in
     let within = subst (λ (xs : List EntryRef). IsSearchInRange searched.result (length xs)) c.deref.ensures.value searched.ensures.bound in

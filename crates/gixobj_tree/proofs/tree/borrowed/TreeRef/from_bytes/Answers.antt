@@ -1,7 +1,7 @@
 use Rattle.std.proofs.Common.{map, rules}
 use Rattle.std.proofs.lemmas.Grind.{common_steps}
 use Rattle.std.proofs.lemmas.Result.{err_from_is_err_and}
-use Rattle.gixobj_tree.proofs.EntryRuns.{first_entry_exists, malformed_tree_of_no_entry, passes_entries_of_views, decodes_to_tree_at_end}
+use Rattle.gixobj_tree.proofs.EntryRuns.{first_entry_exists, malformed_tree_of_no_entry, begins_with_entries_of_views, decodes_to_tree_at_end}
 use Rattle.gixobj_tree.proofs.tree.borrowed.TreeRef.from_bytes.Goals as goal
 use Rattle.gixobj_tree.specs.TreeViews.{entry_view}
 
@@ -17,7 +17,7 @@ returns-in_err-push-clause-error c =
 
 pub loop-rest-preserved : goal.loop-rest-preserved
 loop-rest-preserved c =
-    passes_entries_of_views entry_view c.args.hash_kind c.args.bytes.now c.loop-rest.rest.now c.in-Some.following.now c.loop-rest.entries.items
+    begins_with_entries_of_views entry_view c.args.hash_kind c.args.bytes.now c.loop-rest.rest.now c.in-Some.following.now c.loop-rest.entries.items
     c.push.new.self.items
     c.in-Some.entry c.loop-rest.invariant c.in-Some.ensures.found c.in_ok-push.ensures.items
 

@@ -1,4 +1,5 @@
--- The parts of the encoding are written one after the other.
+-- The parts of an owned commit, written one after the other, are its encoding, and an error is that of the first part
+-- that fails. They are the clauses of `write_into`.
 use Rattle.std.proofs.Common.{arith, codes}
 use Rattle.std.proofs.lemmas.Result.{IfErr-weaker, IfOk-weaker, err_from_is_err_and}
 use Rattle.gixobj_fields.proofs.Appends.{appends_all_append}

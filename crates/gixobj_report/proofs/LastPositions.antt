@@ -29,13 +29,13 @@ no_key_token_of_other_byte byte rest other =
     ap (λ (t : Bool). cond (t && pointwise nat_eq (codes "key ") (take 4 rest)) (Some (drop 4 rest)) None)
     (false_of_not_true (nat_eq space byte) (λ yes. other (sym (eqb-true space byte yes))))
 
-no_key_token_of_space_free_append : (free passed : List ℕ) → IsByteFree space free → after_last key_token passed ≡ None
-    → after_last key_token (free ++ passed) ≡ None
-no_key_token_of_space_free_append [] passed all none = none
-no_key_token_of_space_free_append (byte ∷ free) passed all none =
-    ap (λ it. either it (after_prefix key_token (byte ∷ free ++ passed)))
-    (no_key_token_of_space_free_append free passed (All-tail (λ it. it ≢ space) byte free all) none)
-    ∙ no_key_token_of_other_byte byte (free ++ passed) (All-head (λ it. it ≢ space) byte free all)
+no_key_token_of_space_free_append : (free following : List ℕ) → IsByteFree space free → after_last key_token following ≡ None
+    → after_last key_token (free ++ following) ≡ None
+no_key_token_of_space_free_append [] following all none = none
+no_key_token_of_space_free_append (byte ∷ free) following all none =
+    ap (λ it. either it (after_prefix key_token (byte ∷ free ++ following)))
+    (no_key_token_of_space_free_append free following (All-tail (λ it. it ≢ space) byte free all) none)
+    ∙ no_key_token_of_other_byte byte (free ++ following) (All-head (λ it. it ≢ space) byte free all)
 
 drop_len_append : (prefix back : List ℕ) → drop (length prefix) (prefix ++ back) ≡ back
 drop_len_append [] back = refl
@@ -43,9 +43,9 @@ drop_len_append (byte ∷ prefix) back = drop_len_append prefix back
 
 -- a backward search that splits `remaining` at its last space
 module _ (line remaining prefix rest : List ℕ) (entire : line ≡ remaining ++ drop (length remaining) line)
-    (cut : SplitsAtLast space remaining prefix rest) where
+    (split : SplitsAtLast space remaining prefix rest) where
   line_is : line ≡ prefix ++ (space ∷ rest ++ drop (length remaining) line)
-  line_is = entire ∙ ap (λ (it : List ℕ). it ++ drop (length remaining) line) cut.joined ∙ append_assoc prefix (space ∷ rest)
+  line_is = entire ∙ ap (λ (it : List ℕ). it ++ drop (length remaining) line) split.joined ∙ append_assoc prefix (space ∷ rest)
       (drop (length remaining) line)
 
   at_prefix : drop (length prefix) line ≡ space ∷ rest ++ drop (length remaining) line
@@ -62,7 +62,7 @@ module _ (line remaining prefix rest : List ℕ) (entire : line ≡ remaining ++
   here none =
       ap (after_last key_token) at_prefix
       ∙ ap (λ it. either it (after_prefix key_token (space ∷ rest ++ drop (length remaining) line)))
-      (no_key_token_of_space_free_append rest (drop (length remaining) line) cut.last none)
+      (no_key_token_of_space_free_append rest (drop (length remaining) line) split.last none)
       ∙ sym (ap (after_prefix key_token) at_prefix)
 
   pub key_here : (token : List ℕ) → after_last key_token (drop (length remaining) line) ≡ None
@@ -75,7 +75,7 @@ module _ (line remaining prefix rest : List ℕ) (entire : line ≡ remaining ++
   no_key_here none is = here none ∙ is
 
 pub prefix_len_lt : (remaining prefix rest : List ℕ) → SplitsAtLast space remaining prefix rest → length prefix < length remaining
-prefix_len_lt remaining prefix rest cut = let sum = ap length cut.joined ∙ length-append prefix (space ∷ rest) in omega (arith, sum)
+prefix_len_lt remaining prefix rest split = let sum = ap length split.joined ∙ length-append prefix (space ∷ rest) in omega (arith, sum)
 
 pub no_key_after_last : (line remaining : List ℕ) → line ≡ remaining ++ drop (length remaining) line → IsByteFree space remaining
     → after_last key_token (drop (length remaining) line) ≡ None → None ≡ after_last key_token line

@@ -1,7 +1,7 @@
 use Rattle.std.proofs.Common.{◌≡◌, map, take}
 use Rattle.bstr.specs.Owned.{bstring_bytes}
 use Rattle.gixobj_signature.specs.Calls.{plain, word_view}
-use Rattle.gixobj_signature.proofs.signature.words.words_of.Given as goal
+use Rattle.gixobj_signature.proofs.signature.arguments.arguments_of.Given as goal
 
 -- each string that was consumed has its argument
 abbrev pub invariant-loop-one : goal.invariant-loop-one

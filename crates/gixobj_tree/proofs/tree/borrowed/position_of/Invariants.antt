@@ -2,7 +2,7 @@
 use Rattle.std.proofs.Common.{◌≤◌, ◌-◌, length}
 use Rattle.gixobj_tree.specs.TreeViews.{entry_view}
 use Rattle.gixobj_tree.proofs.BinarySearch.{IsNarrowed, compared}
-use Rattle.gixobj_tree.proofs.tree.borrowed.place_of.Given as goal
+use Rattle.gixobj_tree.proofs.tree.borrowed.position_of.Given as goal
 
 abbrev pub invariant-loop-low : goal.invariant-loop-low
 invariant-loop-low l =

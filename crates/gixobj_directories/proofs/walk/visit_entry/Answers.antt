@@ -1,5 +1,5 @@
--- What passing an entry emits: nothing for one without an open directory, the tree of a leaf, or nothing yet for one
--- whose directory begins. They are the clauses of `pass`.
+-- What the visit of an entry emits: nothing for one without an open directory, the tree of a leaf, or nothing yet for one
+-- whose directory begins. They are the clauses of `visit_entry`.
 use Rattle.std.proofs.Common.{◌≡◌, ◌≢◌, ◌∙◌, ℕ, [], ◌∷◌, ◌++◌, List, Option, Some, None, Ok, Err, refl, sym, ap, subst, append-nil}
 use Rattle.std.specs.Fn.{CalledAt}
 use Rattle.std.specs.Option.{option_copied}
@@ -15,7 +15,7 @@ use Rattle.gixobj_directories.specs.WriteErrors.{IsWriteError, EmitsEntry, child
 use Rattle.gixobj_open.specs.declared.open.Child.{Child}
 use Rattle.gixobj_directories.proofs.Emitting.{emits_below_of_both, emits_entry_open, emits_entry_unopened, emits_entry_written, folds_to_one, if_err_weaken, side_of_open_child, stopped_after_folds, stopped_at_call, walk_exists_of_open}
 use Rattle.gixobj_directories.proofs.TakenTrees.{adds_blank_tree, adds_leaf_trees_of_child, adds_nil, leaf_tree_has_base_or_is_emitted, some_unique}
-use Rattle.gixobj_directories.proofs.walk.pass.Goals as goal
+use Rattle.gixobj_directories.proofs.walk.visit_entry.Goals as goal
 
 pub returns-in_default-clause-emitted : goal.returns-in_default-clause-emitted
 returns-in_default-clause-emitted g c =
@@ -46,8 +46,8 @@ returns-in-Some-leaf-clause-emitted g c =
     let goes = leaf_tree_has_base_or_is_emitted child.open tree some.0 some.1 some.2 in
     let found : EmitsBelow inside based [] tree 0 = emits_below_of_both _ _ inside based there base [] tree 0 goes.found in
     let changed : based [] ≢ Some tree = λ is. goes.changed (some_unique _ _ (sym is ∙ sym (ap (λ (d : Dirs). d []) base) ∙ goes.based)) in
-    let emitted = c.in_ok-passed.ensures.emitted in
-    let id = c.in_ok-passed.passed in
+    let emitted = c.in_ok-emitted_id.ensures.emitted in
+    let id = c.in_ok-emitted_id.emitted_id in
     let gave = λ (f : g.row.F.Denot) (p : Pair) (h : g.row.F.Denot). CalledAt g.F.FnMut f p.1 (Ok p.0) h in (
       (id, tree) ∷ [],
       emits_entry_written inside based e [] tree 0 id goes.filled changed found,
@@ -57,8 +57,8 @@ returns-in-Some-leaf-clause-emitted g c =
       folds_to_one gave c.args.out.now (id, tree) c.emit_leaf_tree.new.out emitted.1,
     )
 
-pub returns-in_err-passed-clause-error : goal.returns-in_err-passed-clause-error
-returns-in_err-passed-clause-error g c =
+pub returns-in_err-emitted_id-clause-error : goal.returns-in_err-emitted_id-clause-error
+returns-in_err-emitted_id-clause-error g c =
     let e = c.args.entry.now in
     let inside = child_side entries_side (option_copied c.args.child) in
     let based = child_side base_side (option_copied c.args.child) in
@@ -70,7 +70,7 @@ returns-in_err-passed-clause-error g c =
     let goes = leaf_tree_has_base_or_is_emitted child.open tree some.0 some.1 some.2 in
     let found : EmitsBelow inside based [] tree 0 = emits_below_of_both _ _ inside based there base [] tree 0 goes.found in
     let changed : based [] ≢ Some tree = λ is. goes.changed (some_unique _ _ (sym is ∙ sym (ap (λ (d : Dirs). d []) base) ∙ goes.based)) in
-    if_err_weaken c.from_residual-in_err-passed.result _ _ c.from_residual-in_err-passed.ensures.1
+    if_err_weaken c.from_residual-in_err-emitted_id.result _ _ c.from_residual-in_err-emitted_id.ensures.1
     (λ error is. subst (IsWriteError (λ f p h. CalledAt g.F.FnMut f p.1 (Ok p.0) h) (λ f tree x h. CalledAt g.F.FnMut f tree (Err x) h)
     (λ inner. (kept : List EntryView) × (n : ℕ) × EmitsEntry inside based e inner kept n) c.args.out.now c.emit_leaf_tree.new.out) (sym is)
     (stopped_after_folds (λ f p h. CalledAt g.F.FnMut f p.1 (Ok p.0) h) (λ f tree x h. CalledAt g.F.FnMut f tree (Err x) h)
@@ -85,7 +85,7 @@ returns-in_err-passed-clause-error g c =
             (emits_entry_written inside based e [] tree 0 one.0 goes.filled changed found),
       ),
     ))
-    c.in_err-passed.field-0.0 c.in_err-passed.ensures.error))
+    c.in_err-emitted_id.field-0.0 c.in_err-emitted_id.ensures.error))
 
 pub returns-in_err-leaf-clause-error : goal.returns-in_err-leaf-clause-error
 returns-in_err-leaf-clause-error g c =

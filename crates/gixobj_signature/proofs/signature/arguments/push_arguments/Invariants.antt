@@ -1,7 +1,7 @@
 use Rattle.std.proofs.Common.{◌≡◌, ◌++◌, map, take}
 use Rattle.gixobj_signature.specs.Calls.{word_view}
 use Rattle.gixobj_signature.specs.Pieces.{piece_view}
-use Rattle.gixobj_signature.proofs.signature.words.push_words.Given as goal
+use Rattle.gixobj_signature.proofs.signature.arguments.push_arguments.Given as goal
 
 -- each piece that was consumed has its argument
 abbrev pub invariant-loop-piece : goal.invariant-loop-piece

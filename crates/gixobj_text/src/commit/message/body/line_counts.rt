@@ -1,14 +1,16 @@
-//! The counts of trailers and other lines in a run of lines that aren't blank.
+//! The counts of trailers and other lines among consecutive lines that aren't blank, which decide whether these are a
+//! block of trailers.
 ghost use Rattle.std.specs.Prelude.{◌≡◌, ◌+◌, ◌*◌, ◌<◌, ◌≤◌, ◌^◌, ◌||◌, ◌↔◌, ◌⊎◌, IsTrue, if◌then◌else◌, true, false};
-ghost use Rattle.gixobj_text.specs.BodyLines.{begins_git_generated as begins_recognised_of, is_indented as is_indented_of, is_git_generated as is_recognised_of};
+ghost use Rattle.gixobj_text.specs.BodyLines.{is_indented as is_indented_of, is_git_generated as is_recognised_of};
 ghost use Rattle.gixobj_text.specs.TrailerBlocks.{counts_as_trailer as is_trailing_of};
 
+use crate::commit::message::body::git_generated::begins_git_generated;
 use crate::commit::message::body::lines::{begins_indented, line_content};
 use crate::commit::message::body::trailer_lines::is_line_of_trailer;
 
 /// The counts of the lines of a run.
 #[derive(Clone, Copy, Debug)]
-pub(crate) struct Run {
+pub(crate) struct LineCounts {
     /// The number of lines that count as trailers.
     trailers: usize,
     /// The number of other lines.
@@ -17,14 +19,6 @@ pub(crate) struct Run {
     recognised: bool,
     /// Whether the last line that isn't indented counts as a trailer.
     above: bool,
-}
-
-/// Returns whether the bytes begin with a prefix of a line that git generates.
-#[inline(always)]
-fn begins_recognised(bytes: &[u8]) -> bool
-    ensures { result ≡ begins_recognised_of bytes.now }
-{
-    bytes.starts_with(b"Signed-off-by: ") || bytes.starts_with(b"(cherry picked from commit ")
 }
 
 /// Returns what a line adds to the number of other lines.
@@ -44,17 +38,17 @@ fn above_after(trailing: bool, indented: bool, above: bool) -> bool
     trailing || indented && above
 }
 
-impl Run {
+impl LineCounts {
     ghost use Rattle.std.specs.Prelude.{ℕ, List, [], ◌∷◌, ◌++◌};
     ghost use Rattle.gixobj_text.specs.Counting.{Counts, other_count_of as other_of_of};
 
     /// Returns the counts of no lines.
-    pub(crate) fn new() -> Run
+    pub(crate) fn new() -> LineCounts
         ensures counts { Counts [] result }
         ensures trailers { result.trailers ≡ 0 }
         ensures others { result.others ≡ 0 }
     {
-        Run {
+        LineCounts {
             trailers: 0,
             others: 0,
             recognised: false,
@@ -64,7 +58,7 @@ impl Run {
 
     /// Returns the counts with one more line.
     #[inline(always)]
-    pub(crate) fn with_line(self, line: &[u8]) -> Run
+    pub(crate) fn with_line(self, line: &[u8]) -> LineCounts
         requires trailers { self.trailers + 1 < 2 ^ 64 }
         requires others { self.others + 1 < 2 ^ 64 }
         ensures max_trailers { result.trailers ≤ self.trailers + 1 }
@@ -76,9 +70,9 @@ impl Run {
             else if is_indented_of line.now then self.above else false) }
     {
         let bytes = line_content(line);
-        let (recognised, indented) = (begins_recognised(bytes), begins_indented(bytes));
+        let (recognised, indented) = (begins_git_generated(bytes), begins_indented(bytes));
         let trailing = recognised || is_line_of_trailer(bytes);
-        Run {
+        LineCounts {
             trailers: self.trailers + usize::from(trailing),
             others: self.others + other_of(trailing, indented, self.above),
             recognised: self.recognised || recognised,

@@ -1,7 +1,7 @@
 -- Each comparison narrows the positions of the name.
 use Rattle.std.proofs.Common.{◌∙◌, ◌+◌, ◌-◌, ◌/◌, ◌<◌, Less, Equal, Greater, length, sym, subst, arith}
 use Rattle.gixobj_tree.proofs.BinarySearch.{IsNarrowed, compared, looked, narrowed_all, narrowed_down, narrowed_none, narrowed_up}
-use Rattle.gixobj_tree.proofs.tree.borrowed.place_of.Goals as goal
+use Rattle.gixobj_tree.proofs.tree.borrowed.position_of.Goals as goal
 use Rattle.gixobj_tree.specs.TreeViews.{entry_view}
 
 pub loop-low-init : goal.loop-low-init

@@ -1,6 +1,6 @@
 use Rattle.std.proofs.Common.{◌≡◌, map, take}
 use Rattle.gixobj_signature.specs.Calls.{pair_view}
-use Rattle.gixobj_signature.proofs.signature.words.environment_of.Given as goal
+use Rattle.gixobj_signature.proofs.signature.arguments.environment_of.Given as goal
 
 -- each variable that was consumed has its copy
 abbrev pub invariant-loop-one : goal.invariant-loop-one

@@ -4,7 +4,7 @@ use Rattle.gix_object.specs.TreeDecoding.{DecodesToTree, IsTreeDecodeError}
 use Rattle.gix_object.specs.TreeEncoding.{encode_tree}
 use Rattle.gix_object.specs.TreeViews.{tree_entries}
 use Rattle.gixobj_object_callers.proofs.Errors.{tree_fails_for_room, fails_for_room_of_write}
-use Rattle.gixobj_object_callers.proofs.store.read_back.Goals as goal
+use Rattle.gixobj_object_callers.proofs.store.round_trip.Goals as goal
 
 pub returns-in-Err-clause-error : goal.returns-in-Err-clause-error
 returns-in-Err-clause-error c = λ all.
@@ -27,6 +27,6 @@ returns-in-Ok-into_owned-clause-unchanged c = λ all.
     let is = c.tree_round_trips.ensures c.args.kind c.args.tree.now all in
     let written : c.deref.result.now ≡ encode_tree c.args.tree.now =
     c.deref.ensures.value ∙ c.in_default.ensures.written ∙ ap (λ (it : List ℕ). it ++ encode_tree c.args.tree.now) c.new-bytes.ensures.items in
-    let read = subst (λ (it : List ℕ). DecodesToTree c.args.kind it (tree_entries c.in-Ok.back)) written c.in-Ok.ensures.found in
+    let read = subst (λ (it : List ℕ). DecodesToTree c.args.kind it (tree_entries c.in-Ok.decoded)) written c.in-Ok.ensures.found in
     c.in-Ok-into_owned.ensures.owned ∙ c.tree_decodes_uniquely.ensures.one_tree c.args.kind (encode_tree c.args.tree.now)
-    (tree_entries c.in-Ok.back) c.args.tree.now read is
+    (tree_entries c.in-Ok.decoded) c.args.tree.now read is

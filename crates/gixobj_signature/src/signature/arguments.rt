@@ -2,7 +2,7 @@
 ghost use Rattle.std.specs.Prelude.{◌≡◌, ◌≢◌, ◌++◌, [], ℕ, IfOk, List, OnErr, OnOk, map};
 ghost use Rattle.bstr.specs.Owned.{bstring_bytes};
 ghost use Rattle.gixobj_signature.specs.Calls.{pair_view, plain, word_view};
-ghost use Rattle.gixobj_signature.specs.Pieces.{git_words, piece_view};
+ghost use Rattle.gixobj_signature.specs.Pieces.{git_arguments, piece_view};
 
 use crate::signature::Word;
 use Piece::{File, Text, VerifyTime};
@@ -35,7 +35,7 @@ pub fn plain(alloc: Global, bytes: &[u8]) -> Result<Word, OutOfMemory>
 /// # Errors
 ///
 /// [`OutOfMemory`] if an allocation fails, only for at least one string.
-pub fn words_of(alloc: Global, encodings: &[BString]) -> Result<Vec<Word>, OutOfMemory>
+pub fn arguments_of(alloc: Global, encodings: &[BString]) -> Result<Vec<Word>, OutOfMemory>
     ensures arguments { IfOk result (λ it. map word_view it.items
         ≡ map plain (map bstring_bytes encodings.now)) }
     ensures allocates { OnErr result (encodings.now ≢ []) }
@@ -48,20 +48,20 @@ pub fn words_of(alloc: Global, encodings: &[BString]) -> Result<Vec<Word>, OutOf
 }
 
 /// Makes the first arguments of an `ssh-keygen` command on signatures of git, after these arguments.
-pub(crate) fn git_words_of(
+pub(crate) fn git_arguments_of(
     alloc: Global,
     arguments: &[BString],
     command: &[u8],
 ) -> Result<Vec<Word>, OutOfMemory>
     ensures { IfOk result (λ it. map word_view it.items
-        ≡ git_words (map bstring_bytes arguments.now) command.now) }
+        ≡ git_arguments (map bstring_bytes arguments.now) command.now) }
 {
     let pieces = [Text(b"-Y"), Text(command), Text(b"-n"), Text(b"git")];
-    words_with(alloc, arguments, &pieces)
+    arguments_with(alloc, arguments, &pieces)
 }
 
 /// Makes an argument of each of these strings, and then of each piece.
-pub(crate) fn words_with(
+pub(crate) fn arguments_with(
     alloc: Global,
     encodings: &[BString],
     pieces: &[Piece<'_>],
@@ -69,13 +69,13 @@ pub(crate) fn words_with(
     ensures { IfOk result (λ it. map word_view it.items
         ≡ map plain (map bstring_bytes encodings.now) ++ map piece_view pieces.now) }
 {
-    let mut words = words_of(alloc, encodings)?;
-    push_words(alloc, &mut words, pieces)?;
+    let mut words = arguments_of(alloc, encodings)?;
+    push_arguments(alloc, &mut words, pieces)?;
     Ok(words)
 }
 
 /// Appends an argument for each piece.
-pub(crate) fn push_words(
+pub(crate) fn push_arguments(
     alloc: Global,
     words: &mut Vec<Word>,
     pieces: &[Piece<'_>],

@@ -1,4 +1,0 @@
-use Rattle.gixobj_signature.proofs.signature.verify.ssh.calls.novalidate_words_of.Goals as goal
-
-pub returns : goal.returns
-returns c = rw (← c.deref.ensures.value) (rw (← c.in_ok-words.ensures) c.in_ok-push_words.ensures)
