@@ -34,7 +34,7 @@ use std::{mem, slice};
 pub enum Error {
     /// The lookup of the directory's tree failed, with this error.
     ///
-    /// The store failed, has no object with that id, or has one that is malformed or of another kind.
+    /// The store failed, has no object with that id, or has one that can't be decoded or is of another kind.
     #[error("{0}")]
     FindExistingObject(existing_object::Error),
     /// The directory's tree in the store isn't well-formed ([`Tree::is_well_formed`]).
@@ -238,6 +238,7 @@ pub fn open_along<S: Find>(
     ensures same_root { dirs_of node.new [] ≡ dirs_of node.old [] }
     ensures root { (entries : List EntryView) × (dirs_of node.old [] ≡ Some entries) }
 {
+    // (for the proof: a directory has a list of entries)
     let _ = &node.entries;
     if path.len() <= MAX_RECURSIVE {
         return open_recursively(alloc, node, path, not_looked_up, store, lookups);
@@ -336,6 +337,7 @@ fn open_recursively<S: Find>(
     ensures kept { KeepsOpen (dirs_of node.old) (dirs_of node.new) }
     ensures root { (entries : List EntryView) × (dirs_of node.old [] ≡ Some entries) }
 {
+    // (for the proof: a directory has a list of entries)
     let _ = &node.entries;
     let Some((name, rest)) = path.split_first() else {
         return Ok(());

@@ -38,9 +38,9 @@ abbrev pub IsOpenErrorOnPath : Objects → (ObjectId → Bool) → Trees → Dir
 IsOpenErrorOnPath objects may_fail trees dirs path cause = (it : ObjectId) × (h : IsUnopenedAbove trees dirs path it)
     × AreNames h.parent × IsDirectoryError objects may_fail it cause
 
--- the errors of a removal whose opening ends before such entries, the first on the way from the root: that of an
--- invalid name; that of an unopened directory, which the store doesn't have as a well-formed tree, or whose lookup
--- fails. Or out of memory, if a directory is to be opened
+-- the errors of a removal whose opening ends before an entry that `StopsBefore` accepts, the first on the way from the
+-- root: that of an invalid name; that of an unopened directory, which the store doesn't have as a well-formed tree, or
+-- whose lookup fails. Or out of memory, if a directory is to be opened
 abbrev pub IsRemovalErrorUpTo : (EntryView → Type 0) → EditErrors
 IsRemovalErrorUpTo StopsBefore objects may_fail trees dirs path error.EmptyPathComponent =
     HasInvalidName StopsBefore trees dirs path error.EmptyPathComponent

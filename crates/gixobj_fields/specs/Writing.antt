@@ -50,7 +50,7 @@ IsWritingError Rejects before after bytes error.OutOfMemory =
     (value : List ℕ) × (StopsAt Rejects before after (header_with_newline value)
     ⊎ StopsAt Rejects before after (name_with_zero_byte value))
 
--- Writer: the room of the sink was also less than the parts before each rejected value; any other error: nothing
+-- Writer: the room of the sink was less than the parts before each rejected value; of any other error it says nothing
 abbrev pub LacksRoom : (RejectedValue → List ℕ → Type 0) → SinkView → Error → Type 0
 LacksRoom Rejects before (error.Writer cause) =
     (value : RejectedValue) (parts : List ℕ) → Rejects value parts → before.room < length parts

@@ -26,7 +26,8 @@ pub const MAX_RECURSIVE: usize = 64;
 
 /// A descent along a path: the directories above the one that was reached, and the names before and after it.
 ///
-/// Each directory above has the one above it in place of the next one on the path.
+/// The links are reversed until `ascend` restores them: each directory above has the one above it in place of
+/// the next one on the path.
 #[derive(Drop)]
 pub struct Descent<'a> {
     /// The directories above.
@@ -170,6 +171,7 @@ impl Open {
             self.new other.new }
         ensures unchanged { IsFalse result → (self.new ≡ self.old) × (other.new ≡ other.old) }
     {
+        // (for the proof: a directory has a list of entries)
         let _ = &self.entries;
         let Some(child_position) = self.children.position(name) else {
             return false;
@@ -182,7 +184,7 @@ impl Open {
     }
 }
 
-/// Returns the directory's base. So a directory is a list of at least one path.
+/// Returns the directory's base. A directory has a list of entries, as the clause `root` says.
 fn base_tree(node: &Open) -> &Tree
     ensures base { bases_of node.now [] ≡ Some result.now }
     ensures root { (entries : List EntryView) × (dirs_of node.now [] ≡ Some entries) }

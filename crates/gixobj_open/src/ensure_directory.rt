@@ -74,6 +74,7 @@ impl Open {
         ensures unchanged { OnErr result (self.new ≡ self.old) }
         ensures unopened { OnErr result (dirs_of self.old (names_of path.now) ≡ None) }
     {
+        // (for the proof: a directory has a list of entries)
         let _ = &self.entries;
         let Some((name, rest)) = path.split_first() else {
             return Ok(());

@@ -135,6 +135,7 @@ impl Open {
             let child = here.children.at(child_position);
             here = &child.open;
         }
+        // (for the proof: a directory has a list of entries)
         let _ = &here.entries;
         Some(here)
     }

@@ -160,7 +160,7 @@ failed_run run.OutOfMemory = verify.OutOfMemory
 abbrev pub error_view : Error → Option Verified
 error_view error = verify_view (Err error)
 
--- the runner made this call and returned this output; or the error is a result of each plan that begins with the call
+-- the runner made this call and returned this output; or the error is one of the plan that makes this call and ends
 abbrev pub WasCalled : {S : Type 0} → (S → CallView → Answer → S → Type 0) → CallView → S → Result Output Error → S
     → Type 0
 WasCalled runs call s (Ok output) t = runs s call (ran (output_view output)) t

@@ -13,7 +13,7 @@ marker_prefix = newline ∷ codes "-----BEGIN "
 abbrev pub IsLastMarkerPrefix : List ℕ → ℕ → Option ℕ → Type 0
 IsLastMarkerPrefix bytes end position = FindsLastNeedle (take end bytes) marker_prefix position
 
--- each marker after a newline has its prefix before `end`
+-- each marker after the first byte has its prefix before `end`, or up to it
 abbrev pub HasMarkerPrefixesBefore : List ℕ → ℕ → Type 0
 HasMarkerPrefixesBefore bytes end = (position : ℕ) (format : Format) → HasMarkerAt bytes position format → 0 < position
     → position + length (codes "-----BEGIN ") ≤ end

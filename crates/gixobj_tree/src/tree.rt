@@ -18,7 +18,8 @@ use std::marker::Model;
 /// A tree: the entries of a directory, owned. [`TreeRef::into_owned`] makes one of a decoded tree.
 #[derive(Clone, Debug, Drop)]
 pub struct Tree {
-    /// The entries. A tree of git has them in the order of [`name_order`], with distinct names.
+    /// The entries, in any order. Those of a well-formed tree (`is_well_formed`) are in the order of
+    /// [`name_order`], with distinct names; decoding doesn't check this.
     pub entries: Vec<Entry>,
 }
 

@@ -33,8 +33,8 @@ use gixobj_tree::tree::{Entry, EntryKind};
 use std::alloc::AllocError;
 use std::marker::Model;
 
-/// A zero-sized field that makes a cursor a value of its own for the checker. Only then may a call such as
-/// [`Cursor::upsert`] return its receiver.
+/// A zero-sized field beside the reference to the editor. It makes a cursor a value of its own: only then does the
+/// checker cover the result of a call such as [`Cursor::upsert`], which returns its receiver.
 #[derive(Drop)]
 struct LentBack {}
 

@@ -25,7 +25,8 @@ use std::cmp::Ordering;
 /// A tree: the entries of a directory, borrowed from its encoding. [`TreeRef::from_bytes`] makes one.
 #[derive(Clone, Debug, Drop)]
 pub struct TreeRef<'a> {
-    /// The entries. A tree of git has them in the order of [`name_order`], with distinct names.
+    /// The entries, in any order. Those of a well-formed tree (`is_well_formed`) are in the order of
+    /// [`name_order`], with distinct names; decoding doesn't check this.
     pub entries: Vec<EntryRef<'a>>,
 }
 
