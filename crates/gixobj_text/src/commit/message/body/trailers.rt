@@ -33,41 +33,42 @@ pub struct TrailerRef<'a> {
 /// Access. Tokens are compared with ASCII case ignored. These calls allocate nothing.
 impl TrailerRef<'_> {
     /// Returns whether the token is `Signed-off-by` (git-commit, `--signoff`), ASCII case ignored.
+    /// Allocates nothing.
     pub fn is_signed_off_by(&self) -> bool
         ensures { result ≡ is_named (codes "Signed-off-by") (bstr_bytes self.now.token) }
     {
         self.is_named(b"Signed-off-by")
     }
 
-    /// Returns whether the token is `Co-authored-by`, ASCII case ignored.
+    /// Returns whether the token is `Co-authored-by`, ASCII case ignored. Allocates nothing.
     pub fn is_co_authored_by(&self) -> bool
         ensures { result ≡ is_named (codes "Co-authored-by") (bstr_bytes self.now.token) }
     {
         self.is_named(b"Co-authored-by")
     }
 
-    /// Returns whether the token is `Assisted-by`, ASCII case ignored.
+    /// Returns whether the token is `Assisted-by`, ASCII case ignored. Allocates nothing.
     pub fn is_assisted_by(&self) -> bool
         ensures { result ≡ is_named (codes "Assisted-by") (bstr_bytes self.now.token) }
     {
         self.is_named(b"Assisted-by")
     }
 
-    /// Returns whether the token is `Acked-by`, ASCII case ignored.
+    /// Returns whether the token is `Acked-by`, ASCII case ignored. Allocates nothing.
     pub fn is_acked_by(&self) -> bool
         ensures { result ≡ is_named (codes "Acked-by") (bstr_bytes self.now.token) }
     {
         self.is_named(b"Acked-by")
     }
 
-    /// Returns whether the token is `Reviewed-by`, ASCII case ignored.
+    /// Returns whether the token is `Reviewed-by`, ASCII case ignored. Allocates nothing.
     pub fn is_reviewed_by(&self) -> bool
         ensures { result ≡ is_named (codes "Reviewed-by") (bstr_bytes self.now.token) }
     {
         self.is_named(b"Reviewed-by")
     }
 
-    /// Returns whether the token is `Tested-by`, ASCII case ignored.
+    /// Returns whether the token is `Tested-by`, ASCII case ignored. Allocates nothing.
     pub fn is_tested_by(&self) -> bool
         ensures { result ≡ is_named (codes "Tested-by") (bstr_bytes self.now.token) }
     {
@@ -76,6 +77,7 @@ impl TrailerRef<'_> {
 
     /// Returns whether the token names anyone who had a part in the change, ASCII case ignored. Authors:
     /// `Signed-off-by`, `Co-authored-by`. Others: `Assisted-by`, `Acked-by`, `Reviewed-by`, `Tested-by`.
+    /// Allocates nothing.
     pub fn is_attribution(&self) -> bool
         ensures { result ≡ names_attribution (bstr_bytes self.now.token) }
     {
