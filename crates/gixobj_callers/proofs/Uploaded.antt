@@ -10,7 +10,7 @@ use Rattle.gix_object.specs.Files.{ContainsEntry, Path}
 use Rattle.gix_object.specs.Emission.{Emits, EmitsBelow, EmitsEntries, left_out_if_empty, end, of_entries, unopened, unchanged, written}
 use Rattle.gix_object.specs.Opening.{Dirs, HasAt, IsOpened, in_dir}
 use Rattle.gix_object.specs.hash.hash.object_id.ObjectId.{ObjectId}
-use Rattle.gixobj_callers.proofs.Once.{IsOf, IsPerhaps, Starts, once_under_append_append, entry_name_ne, starts_under_append_append, starts_cons, under}
+use Rattle.gixobj_callers.proofs.DistinctPaths.{IsOf, IsPerhaps, Starts, once_under_append_append, entry_name_ne, starts_under_append_append, starts_cons, under}
 use Rattle.gixobj_callers.specs.Uploads.{IsChanged, IsDivided, IsWrittenTree, IsSorted, IsUnchanged, Once, Sent, loose_pair_of, path_of}
 
 -- ---- lists

@@ -7,7 +7,7 @@ ghost use Rattle.gixobj_commit.specs.CommitViews.{commit_lines};
 ghost use Rattle.gixobj_text.specs.Filters.{all_of, filter_of};
 ghost use Rattle.gixobj_text.specs.TrailerSteps.{is_owned, remaining_bytes};
 ghost use Rattle.gixobj_text.specs.MessageTrailers.{HasTrailerBlock};
-ghost use Rattle.gixobj_text.specs.Summing.{is_multiline};
+ghost use Rattle.gixobj_text.specs.SummaryPieces.{is_multiline};
 ghost use Rattle.gixobj_text.specs.Titles.{SplitsTitle, summary_of};
 ghost use Rattle.gixobj_text.specs.declared.commit.message.body.filters.Filter.TheVariants.{AssistedBy, Attributions, Authors, CoAuthoredBy, SignedOffBy};
 ghost use Rattle.gixobj_hash.specs.Optional.{bytes_if_some};

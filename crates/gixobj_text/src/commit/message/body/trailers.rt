@@ -146,7 +146,7 @@ impl<'a> Iterator for Trailers<'a> {
 }
 
 /// Returns the token of the next trailer line, the bytes after its colon, and the lines after it.
-#[tactic(auto, using(crate::proofs::Reading::is_next_trailer_at_line, crate::proofs::Reading::trailers_of_bytes_skip, crate::proofs::Reading::first_is_folded_skip, crate::proofs::Reading::rest_len_lt, crate::proofs::Reading::trailers_of_bytes_nil, crate::proofs::LastLines::last_lines_refl, crate::proofs::LastLines::last_lines_step))]
+#[tactic(auto, using(crate::proofs::TrailerDecoding::is_next_trailer_at_line, crate::proofs::TrailerDecoding::trailers_of_bytes_skip, crate::proofs::TrailerDecoding::first_is_folded_skip, crate::proofs::TrailerDecoding::rest_len_lt, crate::proofs::TrailerDecoding::trailers_of_bytes_nil, crate::proofs::LastLines::last_lines_refl, crate::proofs::LastLines::last_lines_step))]
 fn next_trailer(bytes: &[u8]) -> Option<(&[u8], &[u8], &[u8])>
     ensures { MatchOption result (trailers_of_bytes bytes.now ≡ [])
         (λ it. IsNextTrailer bytes.now it.0.now it.1.now it.2.now) }
@@ -172,7 +172,7 @@ pub(crate) fn is_continuation(line: &[u8]) -> bool
 
 /// Skips the lines that continue a trailer.
 #[inline(always)]
-#[tactic(auto, using(crate::proofs::Reading::parts_of_continuation_line, crate::proofs::Reading::trailers_of_bytes_skip, crate::proofs::Reading::rest_len_lt, crate::proofs::LastLines::last_lines_refl, crate::proofs::LastLines::last_lines_step))]
+#[tactic(auto, using(crate::proofs::TrailerDecoding::parts_of_continuation_line, crate::proofs::TrailerDecoding::trailers_of_bytes_skip, crate::proofs::TrailerDecoding::rest_len_lt, crate::proofs::LastLines::last_lines_refl, crate::proofs::LastLines::last_lines_step))]
 fn after_continuation_lines(bytes: &[u8]) -> &[u8]
     ensures trailers { trailers_of_bytes result.now ≡ trailers_of_bytes bytes.now }
     ensures within { length result.now ≤ length bytes.now }
@@ -193,7 +193,7 @@ fn after_continuation_lines(bytes: &[u8]) -> &[u8]
 
 /// Returns whether the bytes begin with a line that continues a trailer.
 #[inline(always)]
-#[tactic(auto, using(crate::proofs::Reading::no_continuation_lines_at_end, crate::proofs::Folding::first_line_not_folded))]
+#[tactic(auto, using(crate::proofs::TrailerDecoding::no_continuation_lines_at_end, crate::proofs::ContinuationLines::first_line_not_folded))]
 fn has_continuation_lines(bytes: &[u8]) -> bool
     ensures { result ≡ has_lines (continuation_lines bytes.now) }
 {
@@ -207,7 +207,7 @@ fn has_continuation_lines(bytes: &[u8]) -> bool
 }
 
 /// Decodes a trailer from its token, the bytes after its colon, and the lines after that.
-#[tactic(auto, using(crate::proofs::Reading::with_folded_eq_unfolded, crate::proofs::Reading::unfolded_eq_trimmed))]
+#[tactic(auto, using(crate::proofs::TrailerDecoding::with_folded_eq_unfolded, crate::proofs::TrailerDecoding::unfolded_eq_trimmed))]
 fn parse_trailer<'a>(
     alloc: Global,
     token: &'a [u8],
@@ -235,7 +235,7 @@ fn parse_trailer<'a>(
 }
 
 /// Returns the unfolded value of several lines.
-#[tactic(auto, using(crate::proofs::Reading::with_folded_cons, crate::proofs::Reading::with_folded_at_unfolded, crate::proofs::Reading::with_folded_at_end, crate::proofs::Reading::rest_len_lt))]
+#[tactic(auto, using(crate::proofs::TrailerDecoding::with_folded_cons, crate::proofs::TrailerDecoding::with_folded_at_unfolded, crate::proofs::TrailerDecoding::with_folded_at_end, crate::proofs::TrailerDecoding::rest_len_lt))]
 fn unfolded(alloc: Global, first: &[u8], rest: &[u8]) -> Result<Vec<u8>, AllocError>
     ensures { IfOk result (λ it. it.items
         ≡ with_folded (with_piece [] (trimmed first.now)) (lines_of rest.now)) }
