@@ -1,4 +1,4 @@
--- The entries of tree mode in a list, before and after an edit.
+-- The entries of tree mode in a list, before and after an edit: for all proofs of open directories.
 use mathlib.Core.Bool.{true≢false}
 use Rattle.std.proofs.Common.{◌≡◌, ◌≢◌, inl, inr, ℕ, Bool, true, false, cond, List, [], ◌∷◌, refl, sym, ap, ◌∙◌}
 use Rattle.std.specs.Prelude.{◌&&◌, ◌||◌}
