@@ -58,7 +58,7 @@ pub use Rattle.gixobj_files.specs.Tables
 pub use Rattle.gixobj_files.specs.Unopened
 pub use Rattle.gixobj_find.specs.Existing
 pub use Rattle.gixobj_find.specs.InMemory as MemoryCells
-pub use Rattle.gixobj_find.specs.Nothing
+pub use Rattle.gixobj_find.specs.NeverWrites
 pub use Rattle.gixobj_find.specs.Writers
 pub use Rattle.gixobj_find.specs.declared as find
 pub use Rattle.gixobj_hash.specs.Bytes
@@ -143,7 +143,7 @@ pub use Rattle.gixobj_text.specs.BlockSteps
 pub use Rattle.gixobj_text.specs.TrailerSteps
 pub use Rattle.gixobj_text.specs.Markers
 pub use Rattle.gixobj_text.specs.MessageTrailers
-pub use Rattle.gixobj_text.specs.Summing
+pub use Rattle.gixobj_text.specs.SummaryPieces
 pub use Rattle.gixobj_text.specs.Titles
 pub use Rattle.gixobj_text.specs.TrailerBlocks
 pub use Rattle.gixobj_text.specs.TrailerNames

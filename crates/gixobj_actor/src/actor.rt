@@ -86,6 +86,7 @@ impl<'a> SignatureRef<'a> {
 /// Access
 impl<'a> SignatureRef<'a> {
     /// Returns the actor without white space at the ends of name, email and time. White space is Unicode's.
+    /// Allocates nothing.
     pub fn trim(&self) -> SignatureRef<'a>
         ensures name { bstr_bytes result.name ≡ trimmed (bstr_bytes self.now.name) }
         ensures email { bstr_bytes result.email ≡ trimmed (bstr_bytes self.now.email) }
@@ -98,7 +99,7 @@ impl<'a> SignatureRef<'a> {
         }
     }
 
-    /// Decodes the time, or returns `None` if its bytes are malformed.
+    /// Decodes the time, or returns `None` if its bytes are malformed. Allocates nothing.
     pub fn time(&self) -> Option<Time>
         ensures found { IfSome result (λ it.
             DecodesToTime (bstr_bytes self.now.time) it.seconds it.offset) }
@@ -143,6 +144,7 @@ impl<'a> SignatureRef<'a> {
 /// Conversion
 impl Signature {
     /// Borrows the actor. The time is encoded into the buffer, and the result borrows it from there.
+    /// Allocates nothing.
     pub fn to_ref<'a>(&'a self, time_buf: &'a mut TimeBuf) -> SignatureRef<'a>
         ensures name { bstr_bytes result.name ≡ bstring_bytes self.now.name }
         ensures email { bstr_bytes result.email ≡ bstring_bytes self.now.email }
@@ -214,7 +216,7 @@ impl SignatureRef<'_> {
 
     /// Returns the length of the encoded actor in bytes, or `None` if it exceeds 64 bits.
     ///
-    /// An actor that [`SignatureRef::write_to`] rejects has a length too.
+    /// An actor that [`SignatureRef::write_to`] rejects has a length too. Allocates nothing.
     pub fn size(&self) -> Option<u64>
         ensures { IsSize result (encode_borrowed_actor self.now) }
     {
@@ -292,7 +294,7 @@ impl Signature {
 
     /// Returns the length of the encoded actor in bytes, or `None` if it exceeds 64 bits.
     ///
-    /// An actor that [`Signature::write_to`] rejects has a length too.
+    /// An actor that [`Signature::write_to`] rejects has a length too. Allocates nothing.
     pub fn size(&self) -> Option<u64>
         ensures { IsSize result (encode_owned_actor self.now) }
     {

@@ -29,7 +29,7 @@ impl Time {
     /// Makes the time of these seconds and this offset, both in seconds.
     ///
     /// Returns `None` unless the offset is a multiple of 60 seconds, at most 99 hours and 59 minutes in
-    /// either direction.
+    /// either direction. Allocates nothing.
     pub fn new(seconds: i64, offset: i32) -> Option<Time>
         ensures accepts { IsSome result ↔ IsOffset offset }
         ensures value { IfSome result (λ time. (time.seconds ≡ seconds) × (time.offset ≡ offset)) }
@@ -50,6 +50,7 @@ impl Time {
     /// 0), two digits of hours and two of minutes. An encoded time has at most 26 bytes.
     ///
     /// The result borrows the buffer. The contract leaves the contents of the buffer unspecified.
+    /// Allocates nothing.
     pub fn to_str<'a>(&self, buf: &'a mut TimeBuf) -> &'a str
         ensures encoded { result.now ≡ encode_time self.now.seconds self.now.offset }
         ensures max_len { length result.now ≤ 26 }
@@ -117,6 +118,7 @@ impl Default for Time {
 ///
 /// The seconds are an optional minus and at least one digit, and fit an `i64`. One space follows. The
 /// offset is a plus or a minus, two digits of hours, and two digits of minutes up to 59.
+/// Allocates nothing.
 pub fn parse_header(input: &[u8]) -> Option<Time>
     ensures found { IfSome result (λ time. DecodesToTime input.now time.seconds time.offset) }
     ensures none { IfNone result (IsMalformedTime input.now) }
@@ -265,7 +267,7 @@ impl Model for TimeBuf {
 }
 
 impl TimeBuf {
-    /// Makes an empty buffer.
+    /// Makes an empty buffer. Allocates nothing.
     pub fn new() -> TimeBuf
         ensures { result ≡ [] }
     {
@@ -274,7 +276,7 @@ impl TimeBuf {
         }
     }
 
-    /// Returns the encoded time in the buffer, or the empty string if it has none.
+    /// Returns the encoded time in the buffer, or the empty string if it has none. Allocates nothing.
     pub fn as_str(&self) -> &str
         ensures value { result.now ≡ self.now }
         ensures max_len { length result.now ≤ 26 }

@@ -15,7 +15,7 @@ use std::alloc::Global;
 
 /// Decodes the actor that fills a line.
 ///
-/// Returns `None` if the line is malformed or bytes follow the time.
+/// Returns `None` if the line is malformed or bytes follow the time. Allocates nothing.
 pub fn signature(line: &[u8]) -> Option<SignatureRef<'_>>
     ensures found { IfSome result (λ it. IsActorOf line.now (actor_view it)) }
     ensures none { IfNone result (IsNoActor line.now) }
@@ -28,7 +28,7 @@ pub fn signature(line: &[u8]) -> Option<SignatureRef<'_>>
 
 /// Decodes the actor that fills a line, which has no newline by the contract.
 ///
-/// Returns `None` if the line is malformed or bytes follow the time.
+/// Returns `None` if the line is malformed or bytes follow the time. Allocates nothing.
 pub fn signature_of_line(line: &[u8]) -> Option<SignatureRef<'_>>
     requires one_line { IsByteFree newline line.now }
     ensures found { IfSome result (λ it. IsActorOf line.now (actor_view it)) }
@@ -42,7 +42,7 @@ pub fn signature_of_line(line: &[u8]) -> Option<SignatureRef<'_>>
 
 /// Decodes the actor at the beginning of a line, which has no newline by the contract.
 ///
-/// Returns the actor and the bytes after its time, or `None` if the line is malformed.
+/// Returns the actor and the bytes after its time, or `None` if the line is malformed. Allocates nothing.
 pub fn split_signature(line: &[u8]) -> Option<(SignatureRef<'_>, &[u8])>
     requires one_line { IsByteFree newline line.now }
     ensures found { IfSome result (λ it. IsActorLineOf line.now (actor_view it.0) it.1.now) }

@@ -12,9 +12,9 @@ use std::alloc::Global;
 /// A fault of the bytes of an object.
 #[derive(Clone, Copy)]
 pub(crate) enum BytesFault {
-    /// They are not the encoding of an object of its kind.
+    /// The bytes are not the encoding of an object of its kind.
     Malformed,
-    /// Their object encodes to other bytes, or has a part that isn't encoded.
+    /// The object of the bytes encodes to other bytes, or has a part that isn't encoded.
     OtherBytes,
 }
 

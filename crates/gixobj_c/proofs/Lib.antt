@@ -1,6 +1,6 @@
 pub mod ActorParts
 pub mod EntryParts
-pub mod Filled
+pub mod ConsecutiveEntries
 pub mod HeaderCalls
 pub mod Lines
 pub mod Pieces

@@ -1,4 +1,4 @@
--- Positions of the parts of a tag.
+-- Positions of the parts of a tag; the proofs of `gixobj_tag_token`, `token_at` and `field_span` use them.
 use Rattle.std.proofs.Common.{◌≡◌, ◌≤◌, ◌+◌, ◌-◌, ℕ, List, [], ◌∷◌, ◌++◌, ap, append_assoc, arith, drop, length, length-append, refl, subst, sym, ◌∙◌}
 use Rattle.std.proofs.lemmas.List.{append-nil, length-drop}
 use Rattle.std.specs.Prelude.{Option, codes}

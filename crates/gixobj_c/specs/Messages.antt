@@ -4,7 +4,7 @@ use Rattle.gixobj_calls.specs.Buffers.{WritesBytes}
 use Rattle.gixobj_calls.specs.Codes.{out_of_memory}
 use Rattle.gixobj_c.specs.Spans.{IsSpanOf}
 use Rattle.gixobj_c.specs.declared.messages.Message.{Message}
-use Rattle.gixobj_text.specs.Summing.{is_multiline}
+use Rattle.gixobj_text.specs.SummaryPieces.{is_multiline}
 use Rattle.gixobj_text.specs.Titles.{SplitsTitle, summary_of}
 
 -- the positions of the title and of the body of a message

@@ -22,7 +22,7 @@ use Rattle.gix_object.specs.editor.command.Edit.TheVariants as edit
 use Rattle.gix_object.specs.editor.reply.EditReply.{EditReply}
 use Rattle.gix_object.specs.editor.reply.EditReply.TheVariants as edit_reply
 use Rattle.gixobj_callers.specs.Imports.{AreEditsDone, Decides, HasWriteReply, import_steps}
-use Rattle.gixobj_callers.proofs.Alone.{root_alone_files}
+use Rattle.gixobj_callers.proofs.RootsAlone.{root_alone_files}
 use Rattle.gixobj_listings.proofs.Rooted.{agrees_with_store_of_objects, tree_at_last_pair}
 use Rattle.gixobj_listings.proofs.Histories.{history_append, history_congruent, same_files_refl, same_files_sym, same_files_trans}
 

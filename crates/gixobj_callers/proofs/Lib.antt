@@ -1,11 +1,11 @@
-mod Alone
+mod RootsAlone
 mod Archived
 mod Commits
 mod ImportCauses
 mod Imported
 mod Importing
 mod Listed
-mod Once
+mod DistinctPaths
 mod OneLog
 mod Planned
 mod Inserted

@@ -10,8 +10,8 @@ use Rattle.gix_object.specs.Files.{ContainsEntry, Path}
 use Rattle.gix_object.specs.Emission.{Emits, EmitsBelow, EmitsEntries, left_out_if_empty, end, of_entries, unopened, unchanged, written}
 use Rattle.gix_object.specs.Opening.{Dirs, HasAt, IsOpened, in_dir}
 use Rattle.gix_object.specs.hash.hash.object_id.ObjectId.{ObjectId}
-use Rattle.gixobj_callers.proofs.Once.{IsOf, IsPerhaps, Starts, once_under_append_append, entry_name_ne, starts_under_append_append, starts_cons, under}
-use Rattle.gixobj_callers.specs.Uploads.{IsChanged, IsDivided, IsWrittenTree, IsSorted, IsUnchanged, Once, Sent, loose_pair_of, path_of}
+use Rattle.gixobj_callers.proofs.DistinctPaths.{IsOf, IsPerhaps, Starts, once_under_append_append, entry_name_ne, starts_under_append_append, starts_cons, under}
+use Rattle.gixobj_callers.specs.Uploads.{IsChanged, IsDivided, IsWrittenTree, IsSorted, IsUnchanged, AreDistinctPaths, Sent, loose_pair_of, path_of}
 
 -- ---- lists
 
@@ -133,9 +133,9 @@ module _ (dirs bases : Dirs) where
 
   -- no path is repeated, and each begins with a name of these
   record Onces (P : List ℕ → Type 0) (pairs : List Pair) (saved : ℕ) (parts : Parts pairs saved) : Type 0 where
-    sent : Once (map path_of parts.sent)
+    sent : AreDistinctPaths (map path_of parts.sent)
     sent_start : Starts P (map path_of parts.sent)
-    spared : Once parts.spared
+    spared : AreDistinctPaths parts.spared
     spared_start : Starts P parts.spared
 
 -- each open directory is well-formed
@@ -293,7 +293,7 @@ module _ (dirs bases : Dirs) (name : List ℕ) where
         let this : IsOf (e ∷ rest) name = (e, inl refl, named) in
         let goes = map path_of after.sent in
         record {
-          sent = subst Once (sym paths_joined)
+          sent = subst AreDistinctPaths (sym paths_joined)
               (once_under_append_append Any name (map path_of in_it.sent) (map path_of here) goes one_here lower.sent lower.sent_start later.sent
               (starts_cons (IsOf rest) (λ n. n ≢ name) differ goes later.sent_start));
           sent_start = subst (Starts (IsOf (e ∷ rest))) (sym paths_joined)

@@ -31,8 +31,8 @@ abbrev pub loose_pair_of : Sent → Pair
 loose_pair_of it = it.pair
 
 -- no path occurs twice
-abbrev pub Once : List Path → Type 0
-Once paths = EachLater (λ (one : Path) (other : Path). one ≢ other) paths
+abbrev pub AreDistinctPaths : List Path → Type 0
+AreDistinctPaths paths = EachLater (λ (one : Path) (other : Path). one ≢ other) paths
 
 -- a write of these directories, opened with these bases, that emits these pairs
 module _ (dirs bases : Dirs) (pairs : List Pair) where
@@ -73,7 +73,7 @@ module _ (dirs bases : Dirs) (pairs : List Pair) where
     pub changed : All IsChanged sent
     pub same : All IsUnchanged spared
     pub count : unchanged ≡ raised 0 (length spared)
-    pub once : IsOpened dirs → Once (map path_of sent) × Once spared
+    pub once : IsOpened dirs → AreDistinctPaths (map path_of sent) × AreDistinctPaths spared
     pub each : IsOpened dirs → (name : List ℕ) (path : Path) (entries : List EntryView)
         → dirs (name ∷ path) ≡ Some entries → IsSorted sent spared (name ∷ path)
 

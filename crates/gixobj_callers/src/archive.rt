@@ -27,7 +27,7 @@ use std::alloc::Global;
 ///
 /// # Errors
 ///
-/// [`Stopped`] at the first step that fails, as [`import_all`]. The above holds of the steps before it.
+/// [`Stopped`] at the first step that fails, as [`import_all`]. The steps before it are imported as after a success.
 pub fn archive<S: Keep + KeepCommit>(
     importer: &mut Importer<S>,
     steps: &[Step],

@@ -1,4 +1,4 @@
--- The fields of an owned commit that its encoder accepts are of one line.
+-- The fields of an owned commit that its encoder accepts are of one line: for `owned_commits_have_line_fields`.
 use Rattle.std.proofs.Common.{◌≡◌, ◌≢◌, ◌∙◌, true, ap, inl, inr, refl, subst, sym, ℕ, List, [], ◌∷◌, All, Option, Some, None}
 use Rattle.std.specs.Prelude.{Contains}
 use Rattle.std.proofs.lemmas.Bool.{true≢false}

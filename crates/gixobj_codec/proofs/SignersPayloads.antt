@@ -1,4 +1,5 @@
--- The payload that is found in a signed object is the one that the signer got.
+-- The payload that is found in a signed object is the one that the signer got: for `signed_commit_has_payload` and
+-- `signed_tag_has_payload`.
 use Rattle.std.proofs.Common.{◌≡◌, IfOk, subst, sym, ℕ, List, Result, Ok, Err}
 use Rattle.gixobj_commit.specs.CommitSigning as commit
 use Rattle.gixobj_commit.specs.CommitViews as commit_views

@@ -24,7 +24,7 @@ use Rattle.gixobj_hash.specs.ByteStrings.{IsByteFree}
 use Rattle.gixobj_signature.specs.SignedBytes.{signed_bytes}
 use Rattle.gixobj_signature.specs.declared.signature.signed_data.SignedData.{SignedData}
 use Rattle.gixobj_codec.proofs.TagsExtracted.{has_marker_at_after_prefix, append_split_unique}
-use Rattle.gixobj_codec.specs.SameSignatures.{AreTheSame}
+use Rattle.gixobj_codec.specs.SameSignatures.{AreSameSignatures}
 
 -- ---- positions of markers after lines
 
@@ -248,7 +248,7 @@ signature_begins_with_marker content signature before format has =
 found_signatures_are_the_same : (content : List ℕ) (signature : Option (List ℕ)) (own : Option SignatureRef) (found : Option (SignatureRef × SignedData))
     → IsFoundIn content signature
     → IsSignature signature own
-    → IfSome found (FindsSignatureOfTag content) → IfNone found (HasNoMarker content) → AreTheSame own found
+    → IfSome found (FindsSignatureOfTag content) → IfNone found (HasNoMarker content) → AreSameSignatures own found
 found_signatures_are_the_same content None None None is own has_own none = tt
 found_signatures_are_the_same content None None (Some found) is own has_own none =
     absurd (no_marker_and_marker_place content has_own.position found.0.format has_own.is_marker_place is)
@@ -263,6 +263,6 @@ found_signatures_are_the_same content (Some bytes) (Some it) (Some found) (befor
 
 pub tag_signatures_are_same : (kind : Kind) (content : List ℕ) (tag : TagLines) (own : Option SignatureRef) (found : Option (SignatureRef × SignedData))
     → DecodesToTag kind content tag → IsSignature tag.signature own
-    → IfSome found (FindsSignatureOfTag content) → IfNone found (HasNoMarker content) → AreTheSame own found
+    → IfSome found (FindsSignatureOfTag content) → IfNone found (HasNoMarker content) → AreSameSignatures own found
 tag_signatures_are_same kind content tag own found is = found_signatures_are_the_same content tag.signature own found
     (tag_found kind content tag (parts_of_decoded_tag kind content tag is))

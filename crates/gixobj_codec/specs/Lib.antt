@@ -78,7 +78,7 @@ pub use Rattle.gixobj_text.specs.BlockSteps
 pub use Rattle.gixobj_text.specs.TrailerSteps
 pub use Rattle.gixobj_text.specs.Markers
 pub use Rattle.gixobj_text.specs.MessageTrailers
-pub use Rattle.gixobj_text.specs.Summing
+pub use Rattle.gixobj_text.specs.SummaryPieces
 pub use Rattle.gixobj_text.specs.Titles
 pub use Rattle.gixobj_text.specs.TrailerBlocks
 pub use Rattle.gixobj_text.specs.TrailerNames

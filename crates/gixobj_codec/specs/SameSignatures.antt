@@ -6,8 +6,9 @@ use Rattle.gixobj_signature.specs.declared.signature.signed_data.SignedData.{Sig
 
 -- a tag's own signature, and the one found in an encoding with the data that it signs: both none, or the same bytes and
 -- format
-abbrev pub AreTheSame : Option SignatureRef → Option (SignatureRef × SignedData) → Type 0
-AreTheSame None None = ⊤
-AreTheSame None (Some found) = ⊥
-AreTheSame (Some own) None = ⊥
-AreTheSame (Some own) (Some found) = (bstr_bytes found.0.bytes ≡ bstr_bytes own.bytes) × (found.0.format ≡ own.format)
+abbrev pub AreSameSignatures : Option SignatureRef → Option (SignatureRef × SignedData) → Type 0
+AreSameSignatures None None = ⊤
+AreSameSignatures None (Some found) = ⊥
+AreSameSignatures (Some own) None = ⊥
+AreSameSignatures (Some own) (Some found) =
+    (bstr_bytes found.0.bytes ≡ bstr_bytes own.bytes) × (found.0.format ≡ own.format)

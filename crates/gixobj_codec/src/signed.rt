@@ -9,7 +9,7 @@ ghost use Rattle.gixobj_hash.specs.Hash.{id_kind};
 ghost use Rattle.gixobj_hash.specs.declared.decode.Error.TheVariants.{Malformed};
 ghost use Rattle.gixobj_hash.specs.declared.hash.kind.Kind.{Kind};
 ghost use Rattle.gixobj_line.specs.Commit.{CommitLines, DecodesToCommit, IsCommit};
-ghost use Rattle.gixobj_codec.specs.SameSignatures.{AreTheSame};
+ghost use Rattle.gixobj_codec.specs.SameSignatures.{AreSameSignatures};
 ghost use Rattle.gixobj_codec.specs.LineFields.{HasHeaderNames, HasLineFields};
 ghost use Rattle.gixobj_codec.specs.OneMarker.{HasOneMarker};
 ghost use Rattle.gixobj_codec.specs.SignedEncodings.{CommitPayloadIsSigned, FindsSigned, FindsTagSignature, TagPayloadIsSigned, decoded_value};
@@ -149,5 +149,5 @@ pub fn tag_signatures_agree()
     ensures { (kind : Kind) (content : List ℕ) (lines : TagLines) (own : Option SignatureRef)
         (found : Option (SignatureRef × SignedData)) → DecodesToTag kind content lines
         → IsSignature lines.signature own → IfSome found (FindsSignatureOfTag content)
-        → IfNone found (HasNoMarker content) → AreTheSame own found }
+        → IfNone found (HasNoMarker content) → AreSameSignatures own found }
 {}

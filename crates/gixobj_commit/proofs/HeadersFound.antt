@@ -1,4 +1,4 @@
--- Searches of headers that an iterator yields from a list.
+-- Searches of headers that an iterator yields from a list: for the laws on searches of headers, and `MergetagsFound`.
 use Rattle.std.proofs.Common.{◌≡◌, ◌≢◌, ℕ, Bool, List, [], ◌∷◌, ◌++◌, map, Option, None, Some, append_assoc, arith, length, length-append, true, false, cond, refl, sym, ap, subst, ◌∙◌}
 use Rattle.std.proofs.lemmas.Iterator.{YieldsList}
 use Rattle.std.proofs.lemmas.Iterator.Consumers.{YieldsList-from_shown}

@@ -24,7 +24,7 @@ use Rattle.gixobj_open.specs.Children.{next_child, pairs_after_next}
 use Rattle.gixobj_open.specs.declared.children.Remaining.{Remaining}
 use Rattle.gixobj_directories.specs.declared.frames.Frame.{Frame}
 use Rattle.gixobj_open.specs.declared.open.Child.{Child}
-use Rattle.gixobj_directories.proofs.Alongside.{Stepped, ahead_of_opened, stepped_succ}
+use Rattle.gixobj_directories.proofs.EntryWalks.{Stepped, ahead_of_opened, stepped_succ}
 use Rattle.gixobj_directories.proofs.Emitting.{walk_exists_of_open, walk_goes, walk_step, walks_of_count, written_is_storable}
 use Rattle.gixobj_directories.proofs.TakenTrees.{leaf_trees_of_next_child, remaining_nil}
 use Rattle.gixobj_open.proofs.Levels.{dirs_of_nil}

@@ -1,6 +1,6 @@
-pub mod Alongside
+pub mod EntryWalks
 pub mod BegunFrames
-pub mod Deciding
+pub mod DecidableWellFormed
 pub mod Emitting
 pub mod LookedUp
 pub mod Moves

@@ -24,15 +24,15 @@ pub(crate) enum HeldTree<'a> {
 pub(crate) struct Frame<'a> {
     /// The directory.
     pub(crate) node: &'a Open,
-    /// Its base.
+    /// The base of the directory.
     pub(crate) base: &'a [Entry],
-    /// Its entries.
+    /// The entries of the directory.
     pub(crate) tree: HeldTree<'a>,
     /// The position of the next entry.
     pub(crate) next: usize,
     /// The directories that are open in it, from that of the next entry on.
     pub(crate) remaining: Remaining<'a>,
-    /// Its written tree so far.
+    /// The directory's written tree so far.
     pub(crate) written_tree: WrittenTree,
 }
 

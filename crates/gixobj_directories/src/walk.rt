@@ -28,7 +28,7 @@ use std::mem;
 /// What a step along the entries of a directory did.
 #[derive(Drop)]
 pub(crate) enum Step<'a> {
-    /// It consumed an entry.
+    /// An entry was consumed.
     Visited,
     /// The directory of the next entry has to be written first.
     Begins(&'a Open),
@@ -41,7 +41,7 @@ pub(crate) enum Step<'a> {
 pub(crate) enum Visit<'a> {
     /// The entry gets this id.
     Id(ObjectId),
-    /// Its directory has to be written first.
+    /// The directory of the entry has to be written first.
     Begins(&'a Open),
 }
 

@@ -28,7 +28,7 @@ use Rattle.gixobj_hash.specs.declared.hash.kind.Kind.{Kind}
 use Rattle.gixobj_hash.specs.declared.hash.object_id.ObjectId.{ObjectId}
 use Rattle.gixobj_keep.specs.Memory.{memory_objects}
 use Rattle.gixobj_keep.specs.declared.memory.Memory.{Memory}
-use Rattle.gixobj_script.proofs.Wider.{run_wider}
+use Rattle.gixobj_script.proofs.WiderRelations.{run_wider}
 use Rattle.gixobj_script.specs.Edits.{memory_model}
 use Rattle.gixobj_store.specs.Stores.{Objects}
 use Rattle.gixobj_tree.specs.Entries.{EntryView}

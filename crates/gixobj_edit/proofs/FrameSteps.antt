@@ -1,4 +1,4 @@
--- Frames that follow each other.
+-- Frames that follow each other; the proofs of `split_frame`, `tree_header` and `store_of` use them.
 use Rattle.std.proofs.Common.{◌≡◌, ◌≢◌, ◌<◌, ◌-◌, ◌==◌, ◌∷◌, ◌++◌, ◌∙◌, ap, arith, drop, length, length-append, false, refl, sym, take, true, ℕ, List, []}
 use Rattle.std.proofs.lemmas.Bool.{eqb-true}
 use Rattle.std.proofs.lemmas.List.{length-drop, length-take-le}

@@ -2,5 +2,5 @@ pub mod EditFiles
 pub mod EditRuns
 pub mod Emitted
 pub mod FrameSteps
-pub mod Framed
+pub mod FollowingFrames
 pub mod Replied

@@ -14,7 +14,7 @@ use Rattle.gixobj_editor.specs.declared.editor.error.Error.{Error}
 use Rattle.gixobj_editor.specs.declared.reply.EditReply.{EditReply}
 use Rattle.gixobj_editor.specs.declared.reply.Reply.{Reply}
 use Rattle.gixobj_editor.specs.declared.reply.Reply.TheVariants as reply
-use Rattle.gixobj_editor.proofs.OneMore.{nil_of_len_zero}
+use Rattle.gixobj_editor.proofs.LongerRuns.{nil_of_len_zero}
 use Rattle.gixobj_files.specs.Files.{Path}
 use Rattle.gixobj_files.specs.State.{State}
 use Rattle.gixobj_keep.specs.Keeping.{IsStoreErrorAt, KeepErrors}

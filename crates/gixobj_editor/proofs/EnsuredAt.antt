@@ -18,7 +18,7 @@ use Rattle.gixobj_files.specs.Unopened.{in_directory}
 use Rattle.gixobj_files.proofs.BelowPrefix.{open_of_longer_open}
 use Rattle.gixobj_files.proofs.CursorFiles.{ensured_dirs_files}
 use Rattle.gixobj_files.proofs.StoppedOpenings.{halted_at, halted_unopened}
-use Rattle.gixobj_files.proofs.PrefixStays.{ensured_dirs_open_path}
+use Rattle.gixobj_files.proofs.OpenPrefixes.{ensured_dirs_open_path}
 use Rattle.gixobj_files.proofs.StillOpenedEnsured.{is_opened_ensured}
 use Rattle.gixobj_files.proofs.StillOpenedOpenings.{is_opened_of_opens, opens_keeps_open_lists}
 use Rattle.gixobj_files.proofs.UnopenedCounts.{requested_count}

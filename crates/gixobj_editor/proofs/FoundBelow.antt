@@ -4,7 +4,7 @@ use Rattle.gixobj_open.proofs.Steps.{entry_at_none}
 use Rattle.gixobj_files.specs.Edits.{entry_at}
 use Rattle.gixobj_files.specs.Files.{Path}
 use Rattle.gixobj_files.specs.Opening.{Dirs, in_path}
-use Rattle.gixobj_files.proofs.PrefixStays.{entry_at_in_path}
+use Rattle.gixobj_files.proofs.OpenPrefixes.{entry_at_in_path}
 use Rattle.gixobj_editor.specs.Cursors.{from_root}
 
 pub entry_at_from_root : (prefix path : Path) (dirs inner : Dirs) → ((at : Path) → inner at ≡ dirs (prefix ++ at))

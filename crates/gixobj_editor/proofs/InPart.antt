@@ -1,4 +1,5 @@
--- Directories on a path that are opened in part, by the end of the opening.
+-- Directories on a path that are opened in part, by the end of the opening: for `Edited`, `Removing`, `RemovedAt` and
+-- `CursorPrefixes`.
 use Rattle.std.proofs.Common.{◌≡◌, ◌∙◌, ◌≤◌, ℕ, Bool, List, [], ◌∷◌, ◌++◌, Option, Some, None, append-nil, append_assoc, arith, length, refl, sym, ap, subst}
 use Rattle.gixobj_tree.specs.Entries.{EntryView}
 use Rattle.gixobj_hash.specs.declared.hash.object_id.ObjectId.{ObjectId}

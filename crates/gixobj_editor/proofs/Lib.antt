@@ -2,7 +2,7 @@ mod Agreeing
 pub mod Answered
 mod Calling
 mod Causes
-mod CursorStays
+mod CursorPrefixes
 mod Edited
 mod EnsuredAt
 mod FoundBelow
@@ -12,7 +12,7 @@ mod Kept
 pub mod KeptPairs
 mod Named
 pub mod OneId
-mod OneMore
+mod LongerRuns
 mod OpenedOn
 mod Paths
 pub mod PlainRuns

@@ -16,7 +16,7 @@ use Rattle.gixobj_editor.specs.Cursors.{cursor_path}
 use Rattle.gixobj_files.proofs.Calls.{root_alone_has_bases}
 use Rattle.gixobj_files.proofs.EditedFiles.{root_alone_at_root, root_alone_below_root}
 use Rattle.gixobj_files.proofs.Everywhere.{Everywhere}
-use Rattle.gixobj_files.proofs.Formed.{root_alone_is_opened}
+use Rattle.gixobj_files.proofs.WellFormedEdits.{root_alone_is_opened}
 use Rattle.gixobj_files.proofs.PlainHistories.{IsUpTo}
 use Rattle.gixobj_files.proofs.Plain.{HasBuilt, Plain, all_joined, all_remaining, all_right}
 use Rattle.gixobj_files.specs.Bases.{HasBases}

@@ -1,4 +1,4 @@
--- The record of a write of the root follows from its emitted trees.
+-- The record of a write of the root follows from its emitted trees: for `Editor::try_write` and `WrittenBelow`.
 use Rattle.std.proofs.Common.{All, ◌≡◌, ◌∙◌, ℕ, List, [], ◌∷◌, ◌++◌, Option, Some, refl, sym, ap, subst}
 use Rattle.std.specs.Prelude.{MatchOption}
 use Rattle.std.specs.List.{AllByRecursion, FoldsTo}

@@ -165,7 +165,7 @@ impl<S: Find> Editor<S> {
     /// Inserts or replaces an entry like [`Editor::try_upsert`], and returns the editor, so that calls chain.
     ///
     /// The contract states the effect on the returned editor, and nothing of what an error leaves. Callers
-    /// with proofs use [`Editor::try_upsert`].
+    /// with proofs use [`Editor::try_upsert`], which allocates the same.
     ///
     /// # Errors
     ///
@@ -198,7 +198,7 @@ impl<S: Find> Editor<S> {
     /// Removes an entry like [`Editor::try_remove`], and returns the editor, so that calls chain.
     ///
     /// The contract states the effect on the returned editor, and nothing of what an error leaves. Callers
-    /// with proofs use [`Editor::try_remove`].
+    /// with proofs use [`Editor::try_remove`], which allocates the same.
     ///
     /// # Errors
     ///
@@ -218,7 +218,7 @@ impl<S: Find> Editor<S> {
     /// Removes an entry like [`Editor::try_remove_leaf`], and returns the editor, so that calls chain.
     ///
     /// The contract states the effect on the returned editor, and nothing of what an error leaves. Callers
-    /// with proofs use [`Editor::try_remove_leaf`].
+    /// with proofs use [`Editor::try_remove_leaf`], which allocates the same.
     ///
     /// # Errors
     ///
@@ -344,6 +344,7 @@ impl<S: Find> Editor<S> {
     /// Removes the entry at the path like [`Editor::try_remove`], unless it is a directory.
     ///
     /// A directory above it with the null id or the empty tree's id isn't opened: it has nothing to remove.
+    /// Allocates as [`Editor::try_remove`] does, and the path of [`Error::CannotRemoveNonLeaf`].
     ///
     /// # Errors
     ///
@@ -424,7 +425,8 @@ impl<S> Editor<S> {
     /// Emits the changed open directories to `out`, and last the root, as gix-object documents its
     /// `Editor::write`.
     ///
-    /// It is [`Editor::try_write`] with an owned closure, which must be callable as is said there.
+    /// It is [`Editor::try_write`] with an owned closure, which must be callable as is said there. It allocates
+    /// what that call allocates.
     ///
     /// # Errors
     ///

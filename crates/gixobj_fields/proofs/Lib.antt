@@ -2,7 +2,7 @@ pub mod FieldWrites
 mod FoldedSizes
 pub mod HeaderFields
 pub mod HeadersRoundTrip
-pub mod Joins
+pub mod Concatenations
 pub mod Appends
 pub mod Readers
 pub mod Errors

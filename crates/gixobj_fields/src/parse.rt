@@ -20,6 +20,7 @@ use std::borrow::CowSlice;
 /// Decodes the header field of this name, and returns its value and the rest of the input.
 ///
 /// Returns `None` unless the input begins with the name, a space and a line that ends in a newline.
+/// Allocates nothing.
 #[inline(always)]
 #[tactic(auto, using(crate::proofs::HeaderFields::has_field_of_parts, crate::proofs::HeaderFields::no_field_without_name))]
 pub fn header_field<'a>(input: &'a [u8], name: &[u8]) -> Option<(&'a [u8], &'a [u8])>
@@ -38,7 +39,7 @@ pub fn header_field<'a>(input: &'a [u8], name: &[u8]) -> Option<(&'a [u8], &'a [
 /// Decodes the header field of this name whose value is an id in hex, and returns the hex digits and the
 /// rest.
 ///
-/// Returns `None` unless the input begins with the field of an id of this kind.
+/// Returns `None` unless the input begins with the field of an id of this kind. Allocates nothing.
 #[inline(always)]
 pub fn header_id<'a>(input: &'a [u8], name: &[u8], kind: Kind) -> Option<(BStr<'a>, &'a [u8])>
     ensures found { IfSome result (λ it. BeginsWithIdField name.now kind input.now (bstr_bytes it.0) it.1.now) }
@@ -88,6 +89,7 @@ pub fn header_kind<'a>(input: &'a [u8], name: &[u8]) -> Option<(ObjectKind, &'a 
 }
 
 /// Returns the bytes after the name and a space at the beginning of the input, or `None` without them.
+/// Allocates nothing.
 #[inline(always)]
 pub fn after_name<'a>(input: &'a [u8], name: &[u8]) -> Option<&'a [u8]>
     ensures found { IfSome result (λ rest. input.now ≡ name.now ++ space ∷ rest.now) }
@@ -183,6 +185,7 @@ fn after_prefix<'a>(input: &'a [u8], prefix: &[u8]) -> Option<&'a [u8]>
 }
 
 /// Returns the bytes after one space at the beginning of the input, or `None` without one.
+/// Allocates nothing.
 #[inline(always)]
 pub fn after_space(input: &[u8]) -> Option<&[u8]>
     ensures { MatchOption result (EndsHeader input.now) (λ rest. input.now ≡ space ∷ rest.now) }

@@ -26,7 +26,8 @@ pub trait Source {
 
     /// Reads some of the remaining bytes into the beginning of the buffer, and returns their number.
     ///
-    /// The number is 0 only at the end of the input or for an empty buffer.
+    /// The number is 0 only at the end of the input or for an empty buffer. What the call allocates depends
+    /// on the reader.
     ///
     /// # Errors
     ///
@@ -85,7 +86,7 @@ pub trait Sink {
     /// The loan of the output, if the sink borrows one. Every call leaves it unchanged.
     ghost loan: { Self → ℕ };
 
-    /// Appends all the bytes.
+    /// Appends all the bytes. What the call allocates depends on the writer.
     ///
     /// # Errors
     ///

@@ -59,7 +59,7 @@ pub trait WriteTo {
         ensures room { IfErr result (LacksRoom (rejects self.now) (S.view sink.old)) }
         ensures same_loan { S.loan sink.new ≡ S.loan sink.old };
 
-    /// Returns the kind of the object.
+    /// Returns the kind of the object. Allocates nothing.
     fn kind(&self) -> Kind
         ensures { result ≡ object_kind self.now };
 

@@ -1,4 +1,4 @@
--- Entries that are filtered one after the other, and those that a write emits.
+-- Entries that are filtered one after the other, and those that a write emits: for `assign_ids` and `write_settled`.
 use mathlib.Core.Bool.{true≢false}
 use Rattle.std.proofs.Common.{◌≡◌, ◌≢◌, ◌∙◌, inl, inr, ⊎_elim, ℕ, true, false, not, cond, List, [], ◌∷◌, ◌++◌, Some, refl, sym, ap, subst}
 use Rattle.std.specs.Prelude.{IsFalse}

@@ -1,4 +1,4 @@
--- The entries of tree mode in a list, before and after an edit.
+-- The entries of tree mode in a list, before and after an edit: for all proofs of open directories.
 use mathlib.Core.Bool.{true≢false}
 use Rattle.std.proofs.Common.{◌≡◌, ◌≢◌, inl, inr, ℕ, Bool, true, false, cond, List, [], ◌∷◌, refl, sym, ap, ◌∙◌}
 use Rattle.std.specs.Prelude.{◌&&◌, ◌||◌}
@@ -11,7 +11,7 @@ use Rattle.gixobj_files.specs.Editing.{has_tree, same_name, with_entry, without}
 use Rattle.gixobj_files.specs.Edits.{with_directory}
 use Rattle.gixobj_files.specs.Files.{ContainsEntry}
 use Rattle.gixobj_files.proofs.EditedFiles.{has_with_entry_new, has_without_other, has_with_entry_other}
-use Rattle.gixobj_files.proofs.Formed.{is_well_formed_with_entry}
+use Rattle.gixobj_files.proofs.WellFormedEdits.{is_well_formed_with_entry}
 
 pub entry_of_has_tree : (name : List ℕ) (es : List EntryView) → has_tree name es ≡ true
     → (e : EntryView) × ContainsEntry es e × (e.name ≡ name) × (is_tree_mode e.mode ≡ true)

@@ -9,7 +9,7 @@ pub mod CursorFiles
 pub mod EditedFiles
 pub mod EitherKind
 pub mod Everywhere
-pub mod Formed
+pub mod WellFormedEdits
 pub mod StoppedOpenings
 pub mod Stored
 pub mod HasTrees
@@ -23,7 +23,7 @@ pub mod OpeningFiles
 pub mod WrittenTrees
 pub mod Plain
 pub mod PlainHistories
-pub mod PrefixStays
+pub mod OpenPrefixes
 pub mod RemovedFiles
 pub mod SameTrees
 pub mod FilteredEntries

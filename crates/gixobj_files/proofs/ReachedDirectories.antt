@@ -1,4 +1,4 @@
--- The directories that an opening reaches, and what is found there: for removals by the editor and for `PrefixStays`.
+-- The directories that an opening reaches, and what is found there: for removals by the editor and for `OpenPrefixes`.
 use Rattle.std.proofs.Common.{◌≡◌, ◌≢◌, ◌⊎◌, inl, inr, ℕ, List, [], ◌∷◌, ◌++◌, refl, sym, ap, subst, ◌∙◌, Option, Some, None}
 use Rattle.gixobj_tree.specs.Entries.{EntryView}
 use Rattle.gixobj_hash.specs.Hash.{id_kind}

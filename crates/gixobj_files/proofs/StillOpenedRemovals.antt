@@ -1,4 +1,4 @@
--- A removal keeps the invariant of open directories: for removals by the editor and `PrefixStays`.
+-- A removal keeps the invariant of open directories: for removals by the editor and `OpenPrefixes`.
 use Rattle.std.proofs.Common.{◌≡◌, ◌≢◌, inl, inr, true, false, cond, List, [], ◌∷◌, ◌++◌, ℕ, refl, sym, ap, subst, ◌∙◌, Option, Some, None}
 use Rattle.std.specs.Prelude.{IsTrue}
 use Rattle.std.specs.Cmp.Lexicographic.{bytes_decides}
@@ -10,7 +10,7 @@ use Rattle.gixobj_files.specs.Editing.{same_name, without}
 use Rattle.gixobj_files.specs.Edits.{removed_dirs}
 use Rattle.gixobj_files.specs.Files.{Path}
 use Rattle.gixobj_files.specs.Opening.{Dirs, HasAt, IsOpened, in_dir}
-use Rattle.gixobj_files.proofs.Formed.{is_well_formed_without}
+use Rattle.gixobj_files.proofs.WellFormedEdits.{is_well_formed_without}
 use Rattle.gixobj_files.proofs.OpenedFiles.{same_name_refl, name_eq_or_ne}
 use Rattle.gixobj_files.proofs.RemovedFiles.{has_at_without_other, removed_name_in_other_dir}
 use Rattle.gixobj_files.proofs.StillOpened.{AreAbove, AreFormed}

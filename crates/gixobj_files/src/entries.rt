@@ -7,14 +7,14 @@ use bstr::BString;
 use gixobj_tree::tree::Entry;
 use std::alloc::{AllocError, Global};
 
-/// Returns `true` if the entry has this name.
+/// Returns `true` if the entry has this name. Allocates nothing.
 pub fn is_named(entry: &Entry, name: &[u8]) -> bool
     ensures { result ≡ same_name entry.now.name name.now }
 {
     entry.filename.as_bytes() == name
 }
 
-/// Returns `true` unless the entry's id is the null id.
+/// Returns `true` unless the entry's id is the null id. Allocates nothing.
 pub fn is_non_null(entry: &Entry) -> bool
     ensures { result ≡ not (is_null entry.now.id) }
 {

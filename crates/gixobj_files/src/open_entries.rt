@@ -68,7 +68,7 @@ impl Entries {
         }
     }
 
-    /// Returns the number of entries.
+    /// Returns the number of entries. Allocates nothing.
     pub fn len(&self) -> usize
         ensures { result ≡ length self.now }
     {
@@ -177,6 +177,7 @@ impl Entries {
     }
 
     /// Returns the entries as a tree if they are one piece, as after [`Entries::settle`].
+    /// Allocates nothing.
     pub fn as_tree(&self) -> Option<&Tree>
         ensures { IfSome result (λ tree. tree.now ≡ self.now) }
     {

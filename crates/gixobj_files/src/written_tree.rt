@@ -23,7 +23,7 @@ pub enum WrittenTree {
 }
 
 impl WrittenTree {
-    /// Makes a tree without entries.
+    /// Makes a tree without entries. Allocates nothing.
     pub fn new() -> WrittenTree
         ensures { result ≡ WrittenTree.Prefix 0 }
     {
@@ -68,7 +68,7 @@ impl WrittenTree {
         }
     }
 
-    /// Returns `true` if the tree has no entries.
+    /// Returns `true` if the tree has no entries. Allocates nothing.
     pub fn has_no_entries(&self) -> bool
         ensures { (base : List EntryView) → SharesBase base self.now
             → result ≡ (length (so_far base self.now) == 0) }
@@ -79,7 +79,7 @@ impl WrittenTree {
         }
     }
 
-    /// Returns `true` if the tree is the entire base.
+    /// Returns `true` if the tree is the entire base. Allocates nothing.
     pub fn is_base(&self, base: &[Entry]) -> bool
         requires { SharesBase base.now self.now }
         ensures { IsTrue result ↔ (so_far base.now self.now ≡ base.now) }

@@ -1,3 +1,3 @@
 mod EncodingErrors
-mod Nothing
+mod NeverResults
 mod OfKinds

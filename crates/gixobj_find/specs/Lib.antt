@@ -1,6 +1,6 @@
 pub mod Existing
 pub mod InMemory
-pub mod Nothing
+pub mod NeverWrites
 pub mod Writers
 pub use Rattle.gixobj_fields.specs.StreamHash
 pub use Rattle.gixobj_fields.specs.Writing

@@ -89,7 +89,7 @@ impl Kind {
 impl Kind {
     ghost use Rattle.gixobj_hash.specs.declared.kind.Kind.TheVariants.{Tree, Blob, Commit, Tag};
 
-    /// Returns the name of the kind, as loose headers have it.
+    /// Returns the name of the kind, as loose headers have it. Allocates nothing.
     pub fn as_bytes(&self) -> &'static [u8]
         ensures value { result.now ≡ kind_name self.now }
         ensures max_len { length result.now ≤ 6 }
@@ -102,28 +102,28 @@ impl Kind {
         }
     }
 
-    /// Returns whether this is the kind of trees.
+    /// Returns whether this is the kind of trees. Allocates nothing.
     pub fn is_tree(&self) -> bool
         ensures { IsTrue result ↔ (self.now ≡ Tree) }
     {
         matches!(self, Kind::Tree)
     }
 
-    /// Returns whether this is the kind of blobs.
+    /// Returns whether this is the kind of blobs. Allocates nothing.
     pub fn is_blob(&self) -> bool
         ensures { IsTrue result ↔ (self.now ≡ Blob) }
     {
         matches!(self, Kind::Blob)
     }
 
-    /// Returns whether this is the kind of commits.
+    /// Returns whether this is the kind of commits. Allocates nothing.
     pub fn is_commit(&self) -> bool
         ensures { IsTrue result ↔ (self.now ≡ Commit) }
     {
         matches!(self, Kind::Commit)
     }
 
-    /// Returns whether this is the kind of tags.
+    /// Returns whether this is the kind of tags. Allocates nothing.
     pub fn is_tag(&self) -> bool
         ensures { IsTrue result ↔ (self.now ≡ Tag) }
     {

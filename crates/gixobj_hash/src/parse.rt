@@ -12,6 +12,7 @@ use bstr::BStr;
 /// Returns the input as a byte string if it is the hex of an id of this kind.
 ///
 /// Such hex has 40 digits for SHA-1 and 64 for SHA-256, of either case. Any other input yields `None`.
+/// Allocates nothing.
 #[inline(always)]
 #[tactic(auto, using(crate::proofs::HexTests::all_pass_of_list_all, crate::proofs::HexTests::list_all_of_all_pass))]
 pub fn hex_hash(content: &[u8], kind: Kind) -> Option<BStr<'_>>

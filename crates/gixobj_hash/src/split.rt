@@ -7,6 +7,7 @@ ghost use Rattle.gixobj_hash.specs.ByteStrings.{IsByteFree, SplitsAt, SplitsAtLa
 use bstr::ByteSlice;
 
 /// Returns the bytes before and after the first occurrence of a byte, or `None` if there is none.
+/// Allocates nothing.
 #[inline(always)]
 pub fn split_at_byte(input: &[u8], byte: u8) -> Option<(&[u8], &[u8])>
     ensures found { IfSome result (λ parts. SplitsAt byte input.now parts.0.now parts.1.now) }
@@ -17,6 +18,7 @@ pub fn split_at_byte(input: &[u8], byte: u8) -> Option<(&[u8], &[u8])>
 }
 
 /// Returns the bytes before and after the last occurrence of a byte, or `None` if there is none.
+/// Allocates nothing.
 pub fn split_at_last_byte(input: &[u8], byte: u8) -> Option<(&[u8], &[u8])>
     ensures found { IfSome result (λ parts. SplitsAtLast byte input.now parts.0.now parts.1.now) }
     ensures none { IfNone result (IsByteFree byte input.now) }
@@ -25,14 +27,14 @@ pub fn split_at_last_byte(input: &[u8], byte: u8) -> Option<(&[u8], &[u8])>
     Some((&input[..last], &input[last + 1..]))
 }
 
-/// Returns whether a byte occurs in the content.
+/// Returns whether a byte occurs in the content. Allocates nothing.
 pub fn has_byte(content: &[u8], byte: u8) -> bool
     ensures { MatchBool result (Contains content.now byte) (IsByteFree byte content.now) }
 {
     content.contains(&byte)
 }
 
-/// Returns whether all bytes are ASCII digits, `0` to `9`. It holds for empty content.
+/// Returns whether all bytes are ASCII digits, `0` to `9`. It holds for empty content. Allocates nothing.
 pub fn are_digits(content: &[u8]) -> bool
     ensures { IsTrue result ↔ AllDigits 10 content.now }
 {
@@ -40,6 +42,7 @@ pub fn are_digits(content: &[u8]) -> bool
 }
 
 /// Decodes ASCII digits, at least one, as a decimal number. Returns `None` if it exceeds 64 bits.
+/// Allocates nothing.
 #[tactic(auto, using(std::proofs::lemmas::Int::Digits::digits_value_more, crate::proofs::Digits::digits_value_take_le, crate::proofs::Digits::digit_value_at))]
 pub fn number_from_digits(digits: &[u8]) -> Option<u64>
     requires { IsNumeral 10 digits.now }

@@ -20,8 +20,8 @@ use Rattle.gixobj_import.specs.declared.import.Imported.{Imported}
 use Rattle.gixobj_import.specs.declared.import.Importer.{Importer}
 use Rattle.gixobj_import.specs.declared.import.Step.{Step}
 use Rattle.gixobj_import.proofs.Digests.{IsDigest, adds_commit, adds_by_digest_nil, adds_by_digest_append, adds_trees, written_pairs_are_digests}
-use Rattle.gixobj_import.proofs.Doing.{all_kept, edits_stay, failed_stays}
-use Rattle.gixobj_import.proofs.Known.{OfStores}
+use Rattle.gixobj_import.proofs.EditsDone.{all_kept, edits_stay, failed_stays}
+use Rattle.gixobj_import.proofs.StoreFacts.{OfStores}
 
 module _ {S : Type 0} (model : StoreModel S) (laws : OfStores) where
   abbrev pub objects_of : Importer S → Objects

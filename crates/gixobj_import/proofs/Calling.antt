@@ -1,4 +1,5 @@
--- Calls of a closure that returns digests: of one by its contract, and of any such closure.
+-- Calls of a closure that returns digests: of one by its contract, and of any such closure. The proofs of
+-- `write_by_digests` and `write_and_keep` use them.
 use Rattle.std.proofs.Common.{◌≡◌, ◌∙◌, List, [], ◌∷◌, Err, Ok, Result, refl, subst, sym}
 use Rattle.std.specs.Fn.{Called, CalledAt, Mut}
 use Rattle.std.specs.List.{FoldsTo}

@@ -15,7 +15,7 @@ use Rattle.gixobj_import.specs.declared.import.Importer.{Importer}
 use Rattle.gixobj_import.specs.declared.import.Step.{Step}
 use Rattle.gixobj_import.proofs.Adding.{objects_of, steps_add}
 use Rattle.gixobj_import.proofs.Digests.{adds_by_digest_append, names_commit, names_by_digest_of_adds}
-use Rattle.gixobj_import.proofs.Known.{OfStores}
+use Rattle.gixobj_import.proofs.StoreFacts.{OfStores}
 
 module _ {S : Type 0} (model : StoreModel S) (laws : OfStores) where
   last_is : (old : Importer S) (step : Step) (it : Imported) (new : Importer S) → IsImported model old step it new → new.last ≡ Some it.commit

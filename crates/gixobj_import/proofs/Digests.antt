@@ -21,7 +21,7 @@ use Rattle.gixobj_tree.specs.TreeEncoding.{IsDigestResult, encode_tree}
 use Rattle.gixobj_editor.specs.Replies.{ReturnsTreeId}
 use Rattle.gixobj_import.specs.ByDigest.{AddsByDigest, NamesByDigest, digest_id}
 use Rattle.gixobj_import.specs.Steps.{HaveHex}
-use Rattle.gixobj_import.proofs.Known.{Inserted}
+use Rattle.gixobj_import.proofs.StoreFacts.{Inserted}
 
 id_from_kind : (k : hash.Kind) (bytes : List ℕ) → id_kind (id_from k bytes) ≡ k
 id_from_kind hash_kind.Sha1 bytes = refl

@@ -10,8 +10,8 @@ use Rattle.gixobj_import.specs.declared.import.Step.{Step}
 use Rattle.gixobj_import.proofs.Adding.{objects_of, rejected_adds, steps_add}
 use Rattle.gixobj_import.proofs.Committing.{commits_of_new}
 use Rattle.gixobj_import.proofs.Digests.{adds_by_digest_nil, adds_by_digest_append}
-use Rattle.gixobj_import.proofs.Filing.{files_of_new}
-use Rattle.gixobj_import.proofs.Known.{OfStores}
+use Rattle.gixobj_import.proofs.StepFiles.{files_of_new}
+use Rattle.gixobj_import.proofs.StoreFacts.{OfStores}
 use Rattle.gixobj_store.specs.Stores.{StoreModel}
 
 module _ {S : Type 0} (model : StoreModel S) (laws : OfStores) where

@@ -16,8 +16,8 @@ use Rattle.gixobj_import.specs.declared.import.Imported.{Imported}
 use Rattle.gixobj_import.specs.declared.import.Importer.{Importer}
 use Rattle.gixobj_import.specs.declared.import.Step.{Step}
 use Rattle.gixobj_import.proofs.Adding.{kept_so, objects_of}
-use Rattle.gixobj_import.proofs.Doing.{all_kept, edits_stay, failed_stays}
-use Rattle.gixobj_import.proofs.Known.{OfStores}
+use Rattle.gixobj_import.proofs.EditsDone.{all_kept, edits_stay, failed_stays}
+use Rattle.gixobj_import.proofs.StoreFacts.{OfStores}
 
 -- trees are inserted, and nothing else changes
 abbrev pub InsertsTrees : Objects → Objects → Type 0

@@ -15,7 +15,7 @@ use Rattle.gixobj_import.specs.Commits.{encode_step}
 use Rattle.gixobj_import.specs.Imports.{AgreesWithImports, pairs_of_imports, with_imports}
 use Rattle.gixobj_import.specs.declared.import.Imported.{Imported}
 use Rattle.gixobj_import.specs.declared.import.Step.{Step}
-use Rattle.gixobj_import.proofs.Known.{Inserted}
+use Rattle.gixobj_import.proofs.StoreFacts.{Inserted}
 
 module _ (laws : Inserted) (T : Table) where
   abbrev Has : Pair → Type 0

@@ -236,7 +236,7 @@ impl<S: Keep + KeepCommit> Importer<S> {
 /// # Errors
 ///
 /// - [`Stopped`] at the first step that fails, with the error of [`Importer::step`] and with what was
-///   imported before. The above holds of these steps and their commits too; the store may also have trees of
+///   imported before. These steps and their commits are as after a success; the store may also have trees of
 ///   the step that failed.
 /// - [`Stopped`] with [`ImportError::OutOfMemory`] and an empty list, if the allocation of the list fails.
 ///   Nothing was done then.

@@ -1,4 +1,4 @@
--- Lookups and insertions in the map of the store in memory.
+-- Lookups and insertions in the map of the store in memory: for the calls of `Memory`.
 use Rattle.std.proofs.Common.{◌≡◌, ◌++◌, ℕ, Bool, List, [], Some, true, false, ap, refl, sym, ◌∙◌}
 use Rattle.std.specs.BTreeMap.{Updates, get, is_at}
 use Rattle.std.specs.FinMap as finite

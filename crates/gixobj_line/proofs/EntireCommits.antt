@@ -18,7 +18,7 @@ use Rattle.gixobj_line.proofs.CommitsRead.{Reads, is_encoding_snoc, is_encoding_
 use Rattle.gixobj_line.proofs.LinesYielded.{yields_lines_of_commit}
 use Rattle.gixobj_line.proofs.OneLine.{line_len_lt, no_line_of_nil, line_unique}
 use Rattle.gixobj_line.specs.Commit.{CommitLines, DecodesToCommit, IsCommit, IsMalformedCommit, ReachesHeader, ReachesSecondParent, IsCommitDecodeError, encoding_lines, lines_of_commit, encode_parent}
-use Rattle.gixobj_line.specs.Gathering.{Gathers, Allocates, gather, gathered, empty_commit}
+use Rattle.gixobj_line.specs.CommitBuilding.{Gathers, Allocates, gather, gathered, empty_commit}
 use Rattle.gixobj_line.specs.Lines.{BeginsWithLine, BeginsWithSomeLine, LineView, MayFold, IsLineError, author_comes, author_line, committer_comes, committer_line, encoding_comes, first_header_comes, first_message_comes, header_comes, header_line, message_comes, message_line, parent_comes, parent_line, tree_comes, tree_line}
 use Rattle.gixobj_hash.specs.ByteStrings.{IsByteFree}
 use Rattle.gixobj_line.specs.declared.lines.State.{State}

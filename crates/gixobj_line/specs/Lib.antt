@@ -1,5 +1,5 @@
 pub mod Commit
-pub mod Gathering
+pub mod CommitBuilding
 pub mod Lines
 pub mod TagLineViews
 pub mod TagLines

@@ -1,5 +1,5 @@
 //! The lines of commits and of tags (gitdatamodel, "commits", "tag objects"), for the decoders in crates above.
-//! Also whether bytes are the encoding of a commit or of a tag at all, which allocates nothing.
+//! Two calls report whether bytes are the encoding of a commit or of a tag at all, and allocate nothing.
 #![tactic(auto)]
 
 pub mod commits;

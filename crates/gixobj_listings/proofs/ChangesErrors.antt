@@ -1,4 +1,5 @@
--- Errors of comparisons: an error of a side is one of its pair, and an error of a pair is one of both roots.
+-- Errors of comparisons: an error of a side is one of its pair, and an error of a pair is one of both roots. The proofs
+-- of `differences` use them.
 use Rattle.std.proofs.Common.{◌≡◌, ◌⊎◌, ◌+◌, inl, inr, ⊎_elim, ℕ, Bool, List, [], ◌∷◌, arith, refl, Option, Some, None}
 use Rattle.gix_object.specs.Calls.{names_of}
 use Rattle.gix_object.specs.Entries.{EntryView}

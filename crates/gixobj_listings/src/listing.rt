@@ -62,10 +62,10 @@ pub enum ListError {
 /// Why a directory isn't read.
 #[derive(Debug, Drop, thiserror::Error)]
 pub enum UnreadError {
-    /// Its tree isn't found or is invalid, for this cause.
+    /// The tree of the directory isn't found or is invalid, for this cause.
     #[error("{0}")]
     Tree(RootError),
-    /// Its path has as many names as the paths of files may have.
+    /// The path of the directory has as many names as the paths of files may have.
     #[error("its path is too long")]
     TooDeep,
 }

@@ -14,7 +14,7 @@ use Rattle.gix_object.specs.MessageTrailers.{HasTrailers}
 use Rattle.gix_object.specs.TrailerBlocks.{HasBlock, count_others, counts_as_trailer, trailer_count}
 use Rattle.gix_object.specs.Trailers.{TrailerView, trailers_of, with_trailer}
 use Rattle.gixobj_messages.proofs.AssembledTitles.{title_of_assembled}
-use Rattle.gixobj_messages.proofs.Returns.{without_last_same}
+use Rattle.gixobj_messages.proofs.CarriageReturns.{without_last_same}
 use Rattle.gixobj_messages.specs.Assembled.{IsLineTrailer, IsTitleLine, assembled_message, trailer_content, trailer_line, trailer_lines}
 
 -- ---- the content of a trailer's line

@@ -16,7 +16,7 @@ use Rattle.gix_object.specs.TrailerBlocks.{HasBlock, IsTrailerBlockStart}
 use Rattle.gix_object.specs.Trailers.{TrailerView, trailers_of, trailers_of_bytes, with_trailer}
 use Rattle.gixobj_messages.proofs.AssembledBlocks.{TrailerLineDecodes, ends_line, lines_of_line_append, lines_of_trailers, map_not_nil, no_others, none_blank, some_trailers, trailers_of_lines, without_last_append}
 use Rattle.gixobj_messages.proofs.AssembledTitles.{title_of_described_message}
-use Rattle.gixobj_messages.proofs.Returns.{without_last_same}
+use Rattle.gixobj_messages.proofs.CarriageReturns.{without_last_same}
 use Rattle.gixobj_messages.specs.Assembled.{IsLineTrailer, IsTitleLine, described_body, described_message, trailer_line, trailer_lines, trailer_section}
 
 -- ---- the last line of a description

@@ -1,6 +1,6 @@
 mod AssembledBlocks
 mod AssembledTitles
 pub mod Assembling
-pub mod Returns
+pub mod CarriageReturns
 pub mod Renaming
 mod Descriptions

@@ -181,7 +181,7 @@ fn is_title_line(title: &[u8]) -> bool
 }
 
 /// Tests if bytes end in a carriage return.
-#[tactic(auto, using(crate::proofs::Returns::kept_iff_other, crate::proofs::Returns::kept_of_nil))]
+#[tactic(auto, using(crate::proofs::CarriageReturns::kept_iff_other, crate::proofs::CarriageReturns::kept_of_nil))]
 fn ends_in_return(bytes: &[u8]) -> bool
     ensures { IsFalse result ↔ (without_last_byte carriage_return bytes.now ≡ bytes.now) }
 {

@@ -23,6 +23,7 @@ pub enum EntryKind {
 
 impl EntryKind {
     /// Returns the mode of the kind as trees have it: octal digits, five for a tree and six for all others.
+    /// Allocates nothing.
     pub fn as_octal_str(&self) -> BStr<'static>
         ensures { bstr_bytes result ≡ encode_mode (mode_of_kind self.now) }
     {

@@ -28,7 +28,7 @@ impl EntryMode {
     /// Returns the mode as a number of 16 bits.
     ///
     /// It is `0o040000` if the internal type bits are `0o140000`. These mark a tree whose encoding has a
-    /// first `0`.
+    /// first `0`. Allocates nothing.
     pub fn value(self) -> u16
         ensures { result ≡ mode_value (mode_bits self) }
     {
@@ -40,6 +40,7 @@ impl EntryMode {
     }
 
     /// Returns the kind of the type bits. Unknown type bits are of the kind [`EntryKind::Commit`].
+    /// Allocates nothing.
     pub fn kind(&self) -> EntryKind
         ensures { result ≡ kind_of_mode (mode_bits self.now) }
     {
@@ -89,7 +90,7 @@ impl EntryMode {
         self.value() & IFMT == 0o160000
     }
 
-    /// Returns whether this is a file that its owner may execute.
+    /// Returns whether this is a file that its owner may execute. Allocates nothing.
     ///
     /// # Examples
     ///
@@ -107,7 +108,7 @@ impl EntryMode {
         matches!(self.kind(), EntryKind::BlobExecutable)
     }
 
-    /// Returns whether this is a file, executable or not, or a symbolic link.
+    /// Returns whether this is a file, executable or not, or a symbolic link. Allocates nothing.
     pub fn is_blob_or_symlink(&self) -> bool
         ensures { IsTrue result ↔ ((kind_of_mode (mode_bits self.now) ≡ EntryKind.Blob)
             ⊎ (kind_of_mode (mode_bits self.now) ≡ EntryKind.BlobExecutable)
@@ -119,7 +120,7 @@ impl EntryMode {
         )
     }
 
-    /// Returns the name of the kind: `tree`, `blob`, `exe`, `link` or `commit`.
+    /// Returns the name of the kind: `tree`, `blob`, `exe`, `link` or `commit`. Allocates nothing.
     pub fn as_str(&self) -> &'static str
         ensures { result.now ≡ entry_kind_name (kind_of_mode (mode_bits self.now)) }
     {
@@ -135,7 +136,7 @@ impl EntryMode {
     /// Encodes the mode in octal, as trees have it, into a buffer.
     ///
     /// Mode 0 has one digit, `0`. A tree has five digits, and a `0` before them if it was decoded from
-    /// `040000`. All other modes have six digits.
+    /// `040000`. All other modes have six digits. Allocates nothing.
     pub fn as_bytes<'a>(&self, backing: &'a mut [u8; 6]) -> BStr<'a>
         ensures encoded { bstr_bytes result ≡ encode_mode (mode_bits self.now) }
         ensures max_len { length (bstr_bytes result) ≤ 6 }
@@ -166,7 +167,7 @@ impl EntryMode {
     /// 0, is a space and byte 5 is not, it has exactly six digits. `040000` decodes to a mode that differs
     /// from the one of `40000`.
     ///
-    /// Returns `None` if the bytes are empty or begin with no such mode.
+    /// Returns `None` if the bytes are empty or begin with no such mode. Allocates nothing.
     pub fn from_bytes(i: &[u8]) -> Option<EntryMode>
         ensures found { IfSome result (λ mode. (rest : List ℕ)
             × BeginsWithMode i.now (mode_bits mode) rest) }
@@ -178,7 +179,7 @@ impl EntryMode {
     }
 
     /// Decodes the mode at the beginning of the bytes by the rules of [`EntryMode::from_bytes`], and
-    /// returns the bytes after its digits.
+    /// returns the bytes after its digits. Allocates nothing.
     #[inline(always)]
     #[tactic(auto, using(crate::proofs::EncodedKinds::begins_with_mode_of_kind))]
     pub fn extract_from_bytes(i: &[u8]) -> Option<(EntryMode, &[u8])>
@@ -273,7 +274,7 @@ pub fn encode_kind(mode: EntryMode) -> Option<&'static [u8]>
 /// others but mode 0.
 const ENCODED_LENS: [u8; 16] = [6, 6, 6, 6, 5, 6, 6, 6, 6, 6, 6, 6, 6, 6, 6, 6];
 
-/// Returns the length of the encoded mode, in bytes.
+/// Returns the length of the encoded mode, in bytes. Allocates nothing.
 #[inline(always)]
 pub fn encoded_len(mode: EntryMode) -> usize
     ensures value { result ≡ length (encode_mode (mode_bits mode)) }

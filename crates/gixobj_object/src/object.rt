@@ -28,7 +28,7 @@ pub enum Object {
 
 /// Access. These calls allocate nothing.
 impl Object {
-    /// Returns the kind of the object.
+    /// Returns the kind of the object. Allocates nothing.
     pub fn kind(&self) -> Kind
         ensures { result ≡ owned_kind self.now }
     {
@@ -40,7 +40,7 @@ impl Object {
         }
     }
 
-    /// Returns the tree, or `None` for an object of another kind.
+    /// Returns the tree, or `None` for an object of another kind. Allocates nothing.
     pub fn as_tree(&self) -> Option<&Tree>
         ensures { MatchOption result (owned_kind self.now ≢ Kind.Tree)
             (λ tree. self.now ≡ Object.Tree tree.now) }
@@ -51,7 +51,7 @@ impl Object {
         }
     }
 
-    /// Returns the blob, or `None` for an object of another kind.
+    /// Returns the blob, or `None` for an object of another kind. Allocates nothing.
     pub fn as_blob(&self) -> Option<&Blob>
         ensures { MatchOption result (owned_kind self.now ≢ Kind.Blob)
             (λ blob. self.now ≡ Object.Blob blob.now) }
@@ -62,7 +62,7 @@ impl Object {
         }
     }
 
-    /// Returns the commit, or `None` for an object of another kind.
+    /// Returns the commit, or `None` for an object of another kind. Allocates nothing.
     pub fn as_commit(&self) -> Option<&Commit>
         ensures { MatchOption result (owned_kind self.now ≢ Kind.Commit)
             (λ commit. self.now ≡ Object.Commit commit.now) }
@@ -73,7 +73,7 @@ impl Object {
         }
     }
 
-    /// Returns the tag, or `None` for an object of another kind.
+    /// Returns the tag, or `None` for an object of another kind. Allocates nothing.
     pub fn as_tag(&self) -> Option<&Tag>
         ensures { MatchOption result (owned_kind self.now ≢ Kind.Tag)
             (λ tag. self.now ≡ Object.Tag tag.now) }

@@ -19,7 +19,7 @@ use Rattle.gixobj_files.specs.Files.{Path}
 use Rattle.gixobj_open.specs.Nested.{IsLevel, Level, Opened, Part, at_side, base_side, bases_in, bases_of, below, called, dirs_of, entries_side, in_part, opened, other_parts, part, part_at, part_key, parts, under, with_part}
 use Rattle.gixobj_files.specs.Opening.{Dirs}
 use Rattle.gixobj_open.specs.declared.open.Child.{Child}
-use Rattle.gixobj_files.proofs.Formed.{is_well_formed_with_entry, is_well_formed_without}
+use Rattle.gixobj_files.proofs.WellFormedEdits.{is_well_formed_with_entry, is_well_formed_without}
 use Rattle.gixobj_files.proofs.HasTrees.{is_well_formed_with_directory, has_tree_with_other_directory, has_tree_without_other, has_tree_with_entry, has_tree_with_directory}
 use Rattle.gixobj_sorted.proofs.Sublists.{all_pass, all_weaker, later_kept}
 use Rattle.gixobj_sorted.specs.Pieces.{is_after, is_before}

@@ -1,7 +1,7 @@
 pub mod BaseSteps
 pub mod CopiedFrames
 pub mod Descents
-pub mod Ends
+pub mod PieceEnds
 pub mod Exchanges
 pub mod LeafTrees
 pub mod Levels

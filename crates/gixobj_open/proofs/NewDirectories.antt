@@ -1,4 +1,5 @@
--- New directories along a path: what is open at and below them, and their bases.
+-- New directories along a path: what is open at and below them, and their bases. The proofs of `new_directories`,
+-- `insert_entry` and `ensure_directory` use them.
 use Rattle.std.proofs.Common.{◌≡◌, ◌≢◌, ◌∙◌, ℕ, true, false, cond, List, [], ◌∷◌, ◌++◌, Option, None, length, refl, sym, ap}
 use Rattle.std.specs.Prelude.{◌==◌}
 use Rattle.std.specs.List.{AllByRecursion}

@@ -189,7 +189,7 @@ impl Children {
 /// The open directories in a directory that a walk hasn't reached, in their order.
 #[derive(Clone, Copy)]
 pub struct Remaining<'a> {
-    /// Those of the piece that was reached.
+    /// The remaining directories of the piece that was reached.
     pub piece: &'a [Child],
     /// The pieces after it.
     pub more: &'a [Vec<Child>],

@@ -58,7 +58,7 @@ pub struct Open {
 pub struct Children {
     /// The first piece, which may be empty.
     pub first: Vec<Child>,
-    /// The other pieces.
+    /// The pieces after the first, none of them empty.
     pub more: Vec<Vec<Child>>,
 }
 
@@ -66,7 +66,7 @@ pub struct Children {
 #[cycle(open)]
 #[derive(Drop)]
 pub struct Child {
-    /// Its name, which is that of its entry.
+    /// The name of the directory, which is that of its entry.
     pub name: BString,
     /// What is open at it.
     pub open: Open,

@@ -1,4 +1,5 @@
--- The fields of a header have no space and no newline, and each decodes uniquely.
+-- The fields of a header have no space and no newline, and each decodes uniquely: for `Headers` and the decoders of
+-- headers.
 use Rattle.std.proofs.Common.{◌≡◌, ◌≢◌, ◌<◌, ◌^◌, ℕ, List, [], ◌∷◌, ◌++◌, ◌∙◌, false, true, ap, arith, refl, subst, sym}
 use Rattle.std.proofs.lemmas.Bool.{true≢false}
 use Rattle.std.proofs.lemmas.Fmt.{decimal_is_IsNumeral}

@@ -1,4 +1,4 @@
--- A header has no newline, decodes uniquely, and has no fault.
+-- A header has no newline, decodes uniquely, and has no fault: for `RecordLists` and `Faults`.
 use Rattle.std.proofs.Common.{◌≡◌, ◌≢◌, ℕ, List, ◌∷◌, ◌++◌, ◌∙◌, ap, arith, subst, sym}
 use Rattle.std.proofs.lemmas.Fmt.{decimal_injective}
 use Rattle.std.specs.Prelude.{codes, decimal}

@@ -35,7 +35,7 @@ pub enum Header {
 /// Why a line is no header.
 #[derive(Clone, Copy, Debug, PartialEq, Eq, thiserror::Error)]
 pub enum HeaderFault {
-    /// It doesn't begin with an id in lower-case hex and a space.
+    /// The line doesn't begin with an id in lower-case hex and a space.
     #[error("no id")]
     InvalidId,
     /// Neither `missing` nor the name of a kind and a space follow the id.

@@ -7,7 +7,7 @@ use Rattle.gixobj_hash.specs.declared.hash.kind.Kind.{Kind}
 use Rattle.gixobj_line.proofs.LinesYielded.{yields_lines_of_commit}
 use Rattle.gixobj_line.proofs.EntireCommits.{end_state_of_message, lines_end_with_message, decodes_commit_of_gathered}
 use Rattle.gixobj_line.specs.Commit.{CommitLines, DecodesToCommit}
-use Rattle.gixobj_line.specs.Gathering.{gathered, empty_commit}
+use Rattle.gixobj_line.specs.CommitBuilding.{gathered, empty_commit}
 use Rattle.gixobj_line.specs.Lines.{BeginsWithLine, LineView, message_line}
 use Rattle.gixobj_line.specs.declared.lines.State.{State}
 use Rattle.gixobj_line.specs.declared.lines.State.TheVariants as state

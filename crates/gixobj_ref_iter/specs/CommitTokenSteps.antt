@@ -53,7 +53,7 @@ commit_token_id (encoding_token encoding) = None
 commit_token_id (header_token header) = None
 commit_token_id (message_token message) = None
 
--- this id, or `Malformed` without one
+-- the id of a commit's token, or `Malformed` without one
 abbrev pub commit_id_or_malformed : Option ObjectId → Result ObjectId Error
 commit_id_or_malformed (Some id) = Ok id
 commit_id_or_malformed None = Err Malformed

@@ -70,7 +70,7 @@ DecodesToTagTokens kind input tokens = (encodings : List (List ℕ)) × (input �
 
 -- ---- ids of tokens
 
--- this id, or `Malformed` without one
+-- the id of a tag's token, or `Malformed` without one
 abbrev pub tag_id_or_malformed : Option ObjectId → Result ObjectId Error
 tag_id_or_malformed (Some id) = Ok id
 tag_id_or_malformed None = Err Malformed

@@ -103,7 +103,7 @@ impl Outcome {
     /// Returns whether the signature is valid.
     ///
     /// It is valid if the verifier succeeded, the status is `Good`, and the trust is at least the minimum
-    /// that [`evaluate`] received. Before `evaluate` it isn't valid.
+    /// that [`evaluate`] received. Before `evaluate` it isn't valid. Allocates nothing.
     pub fn is_valid(&self) -> bool
         ensures { result ≡ (outcome_view self.now).valid }
     {

@@ -1,4 +1,5 @@
--- The trees that a run with digests emits are consistent with a store that is empty at first.
+-- The trees that a run with digests emits are consistent with a store that is empty at first: for
+-- `digest_run_has_table`.
 use Rattle.std.proofs.Common.{◌≡◌, ◌∙◌, All, ℕ, List, [], ◌∷◌, None, Some, ap, refl, subst, sym}
 use Rattle.std.proofs.lemmas.List.Elements.{All-head, All-tail, All-weaker}
 use Rattle.std.specs.FinMap as finite

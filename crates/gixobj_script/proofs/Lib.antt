@@ -1,7 +1,7 @@
 pub mod Fitting
 mod EncodedLines
-mod Reading
-mod Readings
+mod ScriptDecoding
+mod ScriptUniqueness
 pub mod Reported
 pub mod RunsSoFar
-pub mod Wider
+pub mod WiderRelations

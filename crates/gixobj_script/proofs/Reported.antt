@@ -14,7 +14,7 @@ use Rattle.gixobj_tree.specs.Entries.{EntryView}
 use Rattle.gixobj_tree.specs.TreeEncoding.{IsDigestResult}
 use Rattle.gixobj_script.specs.Edits.{IsEdit, IsNewEditor, IsReported, memory_model}
 use Rattle.gixobj_script.specs.declared.script.ScriptError.{ScriptError}
-use Rattle.gixobj_script.proofs.Wider.{run_wider}
+use Rattle.gixobj_script.proofs.WiderRelations.{run_wider}
 
 -- the report of a run is that of `edit` if the closure returns digests only
 pub is_edit_of_report : {F : Type 0} (of : Shared F (Bor (List EntryView) × Unit {0}) (Result ObjectId Error)) (out : F) (hash : hash.Kind) (script : List ℕ)

@@ -86,6 +86,7 @@ pub trait Runner {
     /// Runs a program to its end and returns its output.
     ///
     /// It creates the files, sets the environment, writes the standard input, and then removes the files.
+    /// What the call allocates depends on the runner.
     ///
     /// # Errors
     ///

@@ -17,7 +17,7 @@ pub struct Played {
 }
 
 impl Runner for Played {
-    ghost use Rattle.gixobj_signing_tests.specs.Playing.{Plays};
+    ghost use Rattle.gixobj_signing_tests.specs.ScriptedAnswers.{Plays};
 
     ghost runs = { λ old _ answer new. Plays old.steps.items answer new.steps.items };
 

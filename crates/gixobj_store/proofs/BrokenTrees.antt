@@ -1,4 +1,5 @@
--- Bytes that yield entries and then an error have a longest prefix that is the encoding of a tree.
+-- Bytes that yield entries and then an error have a longest prefix that is the encoding of a tree: for
+-- `tree_readers_agree`.
 use Rattle.std.proofs.Common.{◌≡◌, ◌≢◌, ◌≤◌, ◌++◌, ◌∷◌, ℕ, List, [], ap, append_assoc, arith, length, length-append, refl, sym, ◌∙◌}
 use Rattle.std.specs.List.{AllZip, concat}
 use Rattle.gixobj_fields.specs.Runs.{Ending, broken, yields_end, yields_error, yields_piece}

@@ -1,4 +1,4 @@
--- Object stores that keep their objects in lists or maps, by id.
+-- Object stores that keep their objects in lists or maps, by id: for the store in memory and the editor's laws.
 use Rattle.std.proofs.Common.{◌≡◌, ◌≢◌, ◌∷◌, ℕ, Bool, true, false, List, [], Some, ap, map, refl, sym, ◌∙◌}
 use Rattle.std.specs.Prelude.{Option, cond}
 use Rattle.std.specs.BTreeMap.{is_at}

@@ -17,7 +17,7 @@ ghost use Rattle.gixobj_store.specs.declared.tree.TreeRefIter.{TreeRefIter};
 /// The tree decoder and the iterator over entries accept the same trees.
 ///
 /// - `yields`: the iterator yields all entries of an encoded tree, and then ends without an error.
-/// - `read`: bytes that the iterator yields without an error are the encoding of the tree of these entries.
+/// - `decodes`: bytes that the iterator yields without an error are the encoding of the tree of these entries.
 /// - `before_an_error`: the entries yielded before an error are those of the longest prefix that encodes a
 ///   tree.
 /// - `one_run`: bytes have one list of yielded entries, and one ending.
@@ -67,9 +67,9 @@ pub fn remaining_bytes_are_suffix()
 
 /// Insertion in a map from ids to objects.
 ///
-/// - `nothing`: in an empty map an id names no object.
-/// - `there`: an inserted id names the inserted object.
-/// - `elsewhere`: each other id names what it named before.
+/// - `empty`: in an empty map an id names no object.
+/// - `inserted`: an inserted id names the inserted object.
+/// - `unchanged`: each other id names what it named before.
 ///
 /// So after a list is inserted from its last object to its first, an id names the first object listed with
 /// it.

@@ -31,6 +31,7 @@ pub trait Find: Store {
     /// Looks up the object that `id` names, or returns `None` if it names none.
     ///
     /// The content is written to `buffer`. Without an object the buffer may hold any bytes afterwards.
+    /// What else the call allocates depends on the store.
     ///
     /// # Errors
     ///
@@ -56,7 +57,7 @@ pub trait Find: Store {
 /// An object store that looks up the kinds and the sizes of objects.
 pub trait FindHeader: Store {
     /// Looks up the kind and the size in bytes of the object that `id` names, or returns `None` if it names
-    /// none.
+    /// none. What the call allocates depends on the store.
     ///
     /// # Errors
     ///
@@ -71,6 +72,7 @@ pub trait FindHeader: Store {
 /// An object store that knows which objects it has.
 pub trait Exists: Store {
     /// Returns whether `id` names an object. The result may be either if the lookup of `id` may fail.
+    /// What the call allocates depends on the store.
     fn exists(&self, id: oid<'_>) -> bool
         ensures { IsFalse (Self.may_fail self.now (borrowed_id id.entry))
             → result ≡ is_some (named (Self.objects self.now) (borrowed_id id.entry)) };

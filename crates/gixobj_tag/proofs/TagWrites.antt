@@ -1,4 +1,4 @@
--- Tags are written step by step, and the error of a step is that of all.
+-- Tags are written step by step, and the error of a step is that of all: for `write_into` and the calls in it.
 use Rattle.std.proofs.Common.{◌≡◌, ◌+◌, ◌≤◌, ◌⊎◌, ℕ, List, [], ◌∷◌, ◌++◌, Result, ap, arith, inl, inr, length, length-append, refl, sym, ◌∙◌}
 use Rattle.std.proofs.lemmas.List.{append-nil}
 use Rattle.std.specs.Prelude.{codes}

@@ -4,7 +4,7 @@ use Rattle.std.proofs.lemmas.List.Elements.{All-cons, All-nil}
 use Rattle.bstr.proofs.Computing.{computing}
 use Rattle.gixobj_text.specs.MessageBlocks.{AreBlocksFrom, BlockView}
 use Rattle.gixobj_text.specs.MessageBlocks.AreBlocksFrom.{block, none}
-use Rattle.gixobj_text.specs.Steps.{ContinuesTrailer, NoTrailer}
+use Rattle.gixobj_text.specs.LineSteps.{ContinuesTrailer, NoTrailer}
 
 abbrev of : List ℕ → List ℕ → BlockView
 of message trailers = record { message = message; trailers = trailers }

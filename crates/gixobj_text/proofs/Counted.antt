@@ -1,7 +1,7 @@
 -- The counts of a run after one more line.
 use Rattle.std.proofs.Common.{◌≡◌, ◌++◌, ◌∷◌, ◌∙◌, ◌+◌, ap, sym, refl, ℕ, Bool, true, false, cond, List, []}
 use Rattle.std.specs.Prelude.{◌||◌, count_by, fold}
-use Rattle.gixobj_text.specs.Counting.{Counts, other_count_of}
+use Rattle.gixobj_text.specs.RunCounts.{Counts, other_count_of}
 use Rattle.gixobj_text.specs.BodyLines.{is_indented, is_git_generated}
 use Rattle.gixobj_text.specs.TrailerBlocks.{counts_as_trailer, count_others}
 use Rattle.gixobj_text.specs.declared.commit.message.body.line_counts.LineCounts.{LineCounts}

@@ -1,4 +1,4 @@
--- Lines have at most one last run.
+-- Lines have at most one last run: for `Scans`, `OneAnswer` and `BlockRows`.
 use Rattle.std.proofs.Common.{◌++◌, ◌∙◌, ◌∷◌, ◌≡◌, ◌≢◌, All, Bool, List, [], ap, append_assoc, cond, false, inl, inr, not, refl, subst, sym, true, ℕ}
 use Rattle.std.proofs.lemmas.List.Elements.{All-head, All-tail}
 use Rattle.std.specs.Prelude.{◌&&◌}

@@ -3,7 +3,7 @@
 use Rattle.std.proofs.Common.{◌++◌, ◌+◌, ◌∙◌, ◌∷◌, ◌≡◌, ◌≢◌, ◌≤◌, List, None, Option, Some, [], ap, append_assoc, arith, drop, inl, inr, length, length-append, refl, subst, sym, zero-add, ℕ}
 use Rattle.std.specs.List.{concat}
 use Rattle.bstr.specs.Text.{lines_of}
-use Rattle.gixobj_text.specs.Breaks.{after_two_breaks}
+use Rattle.gixobj_text.specs.LineBreaks.{after_two_breaks}
 use Rattle.gixobj_text.specs.BodyLines.{trimmed_line}
 use Rattle.gixobj_text.specs.MessageTrailers.{BodyHasTrailerBlock, HasTrailerBlock, HasTrailers}
 use Rattle.gixobj_text.specs.Titles.{HasBreaks, IsBreak, IsSplitAtBreaks, SplitsTitle}

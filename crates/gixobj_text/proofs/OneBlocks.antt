@@ -8,7 +8,7 @@ use Rattle.bstr.proofs.lemmas.RestLemmas.{concat-lines_of}
 use Rattle.gixobj_text.specs.MessageBlocks.{AreBlocksFrom, AreTrailers, BlockView, EndsTrailers, IsBlockOfLines, IsFirstMessageBlock}
 use Rattle.gixobj_text.specs.MessageBlocks.AreBlocksFrom.{block, none}
 use Rattle.gixobj_text.specs.BodyLines.{is_continuation_line, is_trailer_line}
-use Rattle.gixobj_text.specs.Steps.{BeginsTrailer, ContinuesTrailer, NoTrailer}
+use Rattle.gixobj_text.specs.LineSteps.{BeginsTrailer, ContinuesTrailer, NoTrailer}
 
 abbrev Lines : Type 0
 Lines = List (List ℕ)

@@ -4,7 +4,7 @@ use Rattle.std.proofs.Common.{◌++◌, ◌+◌, ◌∙◌, ◌∷◌, ◌≡◌
 use Rattle.std.proofs.lemmas.List.Elements.{All-cons, All-head, All-nil, All-tail}
 use Rattle.std.specs.Prelude.{IsFalse, IsTrue, ◌||◌}
 use Rattle.std.specs.List.{list_any}
-use Rattle.gixobj_text.specs.Counting.{other_count_of}
+use Rattle.gixobj_text.specs.RunCounts.{other_count_of}
 use Rattle.gixobj_text.specs.BodyLines.{is_blank, is_indented}
 use Rattle.gixobj_text.specs.Scanning.{is_below_trailer_after}
 use Rattle.gixobj_text.specs.TrailerBlocks.{EndsBlank, IsLastRun, counts_as_trailer, count_others}

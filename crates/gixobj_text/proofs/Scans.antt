@@ -7,7 +7,7 @@ use Rattle.std.specs.Prelude.{IsTrue, ◌↔◌}
 use Rattle.std.specs.List.{concat}
 use Rattle.bstr.specs.Text.{lines_of}
 use Rattle.bstr.proofs.lemmas.LineLemmas.{lines-nil}
-use Rattle.gixobj_text.specs.Counting.{Counts}
+use Rattle.gixobj_text.specs.RunCounts.{Counts}
 use Rattle.gixobj_text.specs.FirstLines.{IsFirstLine}
 use Rattle.gixobj_text.specs.BodyLines.{is_blank, trimmed_line}
 use Rattle.gixobj_text.specs.Scanned.{EndsAfter, HasRun, IsWalked, Scanned}

@@ -6,7 +6,7 @@ use Rattle.bstr.specs.BStr.{bstr_bytes}
 use Rattle.bstr.specs.declared.bstr.BStr.{BStr}
 use Rattle.gixobj_hash.specs.Optional.{bytes_if_some}
 use Rattle.std.specs.Prelude.{MatchOption}
-use Rattle.gixobj_text.specs.Breaks.{IsUnsplit, begins_two_breaks, after_break, after_next_break, after_carriage_return, after_two_breaks, no_double_break_before, no_double_break}
+use Rattle.gixobj_text.specs.LineBreaks.{IsUnsplit, begins_two_breaks, after_break, after_next_break, after_carriage_return, after_two_breaks, no_double_break_before, no_double_break}
 use Rattle.gixobj_text.specs.Titles.{HasBreaks, IsBreak, IsSplitAtBreaks, SplitsTitle}
 use Rattle.gixobj_text.specs.Titles.IsBreak.{alone, after_return}
 

@@ -12,7 +12,7 @@ use Rattle.gixobj_text.proofs.SplitTitles.{title_is_prefix}
 use Rattle.gixobj_text.specs.FirstLines.{IsFirstLine}
 use Rattle.gixobj_text.specs.MessageBlocks.{AreTrailers, EndsTrailers, IsBlockOfLines, IsFirstMessageBlock}
 use Rattle.gixobj_text.specs.BodyLines.{is_continuation_line, is_trailer_line}
-use Rattle.gixobj_text.specs.Steps.{BeginsTrailer, ContinuesTrailer, IsAtTrailer, IsAfterTrailers, HasConsumedAll, NoTrailer}
+use Rattle.gixobj_text.specs.LineSteps.{BeginsTrailer, ContinuesTrailer, IsAtTrailer, IsAfterTrailers, HasConsumedAll, NoTrailer}
 use Rattle.gixobj_text.proofs.OneLine.{all_snoc}
 
 abbrev Lines : Type 0

@@ -11,7 +11,7 @@ use Rattle.bstr.specs.Find.{IsFirstByte, is_byte}
 use Rattle.bstr.specs.Owned.{joined}
 use Rattle.bstr.specs.Trim.{trim_end_by}
 use Rattle.gixobj_text.proofs.LongestPrefixes.{drop_prefix_len_cons}
-use Rattle.gixobj_text.specs.Summing.{has_more, is_multiline, summary_of_rest}
+use Rattle.gixobj_text.specs.SummaryPieces.{has_more, is_multiline, summary_of_rest}
 use Rattle.gixobj_text.specs.Titles.{without_trailing_but_last, pieces_of, summary_of, summary_of_pieces, without_trailing}
 use Rattle.gixobj_hash.specs.ByteStrings.{is_filled, trimmed}
 

@@ -1,8 +1,8 @@
 pub mod MessageBlocks
 pub mod Bodies
 pub mod BodyLines
-pub mod Breaks
-pub mod Counting
+pub mod LineBreaks
+pub mod RunCounts
 pub mod Filters
 pub mod FirstLines
 pub mod BlockSteps
@@ -12,8 +12,8 @@ pub mod Markers
 pub mod MessageTrailers
 pub mod Scanned
 pub mod Scanning
-pub mod Steps
-pub mod Summing
+pub mod LineSteps
+pub mod SummaryPieces
 pub mod Titles
 pub mod TrailerBlocks
 pub mod TrailerNames

@@ -2,7 +2,7 @@
 use Rattle.std.specs.Prelude.{◌≡◌, ◌⊎◌, ◌≤◌, ◌+◌, ℕ, true, false, List, [], ◌∷◌, ◌++◌, All, IsTrue, length}
 use Rattle.std.specs.List.{concat}
 use Rattle.bstr.specs.Text.{lines_of}
-use Rattle.gixobj_text.specs.Counting.{Counts}
+use Rattle.gixobj_text.specs.RunCounts.{Counts}
 use Rattle.gixobj_text.specs.BodyLines.{is_blank, trimmed_line}
 use Rattle.gixobj_text.specs.TrailerBlocks.{EndsBlank, IsLastRun, StartsAfter}
 use Rattle.gixobj_text.specs.declared.commit.message.body.scan.Scan.{Scan}

@@ -1,4 +1,4 @@
--- The lines of a commit up to a header of a name.
+-- The lines of a commit up to a header of a name: for `find_header`.
 use Rattle.std.proofs.Common.{◌≡◌, ◌≢◌, ◌+◌, ◌-◌, ◌++◌, ◌∷◌, ◌==◌, ◌∙◌, true, false, append_assoc, append-nil, arith, ap, codes, length, refl, sym, take, ℕ, List, []}
 use Rattle.std.proofs.Math.Seq.{take-append_seam}
 use Rattle.std.proofs.lemmas.Bool.{eqb-true}

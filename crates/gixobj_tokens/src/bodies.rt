@@ -46,7 +46,7 @@ fn parted(content: &[u8]) -> (BStr<'_>, Option<BStr<'_>>)
     )
 }
 
-/// Returns whether all bytes are newlines, also if there are none.
+/// Returns whether all bytes are newlines, also if there are none. Allocates nothing.
 pub fn are_newlines(content: &[u8]) -> bool
     ensures { result ≡ are_newlines_of content.now }
 {

@@ -1,6 +1,6 @@
 mod BinarySearch
 pub mod Blocks
-pub mod Deciding
+pub mod DecidableTrees
 pub mod EightBytes
 pub mod EntryRuns
 pub mod NameKeys

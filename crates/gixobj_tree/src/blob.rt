@@ -14,7 +14,7 @@ pub struct BlobRef<'a> {
 }
 
 impl<'a> BlobRef<'a> {
-    /// Creates the blob of these bytes. All bytes are a valid blob.
+    /// Creates the blob of these bytes. All bytes are a valid blob. Allocates nothing.
     pub fn from_bytes(bytes: &'a [u8]) -> BlobRef<'a>
         ensures { result.bytes.now ≡ bytes.now }
     {
@@ -43,7 +43,7 @@ pub struct Blob {
 }
 
 impl Blob {
-    /// Borrows the blob.
+    /// Borrows the blob. Allocates nothing.
     pub fn to_ref(&self) -> BlobRef<'_>
         ensures { result.bytes.now ≡ self.now.bytes.items }
     {

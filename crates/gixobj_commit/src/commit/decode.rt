@@ -4,7 +4,7 @@ ghost use Rattle.gixobj_commit.specs.CommitViews.{BorrowsOneLineValues, commit_l
 ghost use Rattle.gixobj_commit.specs.CommitWriting.{HasIds};
 ghost use Rattle.gixobj_hash.specs.declared.decode.Error.TheVariants.{OutOfMemory};
 ghost use Rattle.gixobj_line.specs.Commit.{DecodesToCommit, IsCommitDecodeError};
-ghost use Rattle.gixobj_line.specs.Gathering.{Allocates, gather, empty_commit};
+ghost use Rattle.gixobj_line.specs.CommitBuilding.{Allocates, gather, empty_commit};
 ghost use Rattle.gixobj_line.specs.Lines.{IsParsedLine, line_view};
 
 use super::CommitRef;

@@ -7,7 +7,7 @@ ghost use Rattle.gixobj_commit.specs.CommitViews.{commit_lines};
 ghost use Rattle.gixobj_text.specs.Filters.{all_of, filter_of};
 ghost use Rattle.gixobj_text.specs.TrailerSteps.{is_owned, remaining_bytes};
 ghost use Rattle.gixobj_text.specs.MessageTrailers.{HasTrailerBlock};
-ghost use Rattle.gixobj_text.specs.Summing.{is_multiline};
+ghost use Rattle.gixobj_text.specs.SummaryPieces.{is_multiline};
 ghost use Rattle.gixobj_text.specs.Titles.{SplitsTitle, summary_of};
 ghost use Rattle.gixobj_text.specs.declared.commit.message.body.filters.Filter.TheVariants.{AssistedBy, Attributions, Authors, CoAuthoredBy, SignedOffBy};
 ghost use Rattle.gixobj_hash.specs.Optional.{bytes_if_some};
@@ -75,10 +75,12 @@ impl<'a> CommitRef<'a> {
     }
 }
 
-/// Trailers of the message by token, with ASCII case ignored. They allocate as those of
-/// [`CommitRef::message_trailers`] do.
+/// Trailers of the message by token, with ASCII case ignored.
 impl<'a> CommitRef<'a> {
     /// Returns an iterator over the `Signed-off-by` trailers of the message (git-commit, `--signoff`).
+    ///
+    /// Making the iterator allocates nothing. It allocates each value of several lines that it yields, and
+    /// yields an error if that fails.
     ///
     /// # Examples
     ///
@@ -98,6 +100,9 @@ impl<'a> CommitRef<'a> {
     }
 
     /// Returns an iterator over the `Co-authored-by` trailers of the message.
+    ///
+    /// Making the iterator allocates nothing. It allocates each value of several lines that it yields, and
+    /// yields an error if that fails.
     pub fn co_authored_by_trailers(&self, alloc: Global) -> Filtered<'a>
         ensures trailers { HasTrailerBlock (commit_lines self.now).message
             (remaining_bytes (all_of result)) }
@@ -107,6 +112,9 @@ impl<'a> CommitRef<'a> {
     }
 
     /// Returns an iterator over the `Assisted-by` trailers of the message.
+    ///
+    /// Making the iterator allocates nothing. It allocates each value of several lines that it yields, and
+    /// yields an error if that fails.
     pub fn assisted_by_trailers(&self, alloc: Global) -> Filtered<'a>
         ensures trailers { HasTrailerBlock (commit_lines self.now).message
             (remaining_bytes (all_of result)) }
@@ -116,6 +124,9 @@ impl<'a> CommitRef<'a> {
     }
 
     /// Returns an iterator over the trailers of the change's authors: `Signed-off-by` and `Co-authored-by`.
+    ///
+    /// Making the iterator allocates nothing. It allocates each value of several lines that it yields, and
+    /// yields an error if that fails.
     pub fn author_trailers(&self, alloc: Global) -> Filtered<'a>
         ensures trailers { HasTrailerBlock (commit_lines self.now).message
             (remaining_bytes (all_of result)) }
@@ -125,6 +136,9 @@ impl<'a> CommitRef<'a> {
     }
 
     /// Returns an iterator over the trailers of everyone who had a part in the change.
+    ///
+    /// Making the iterator allocates nothing. It allocates each value of several lines that it yields, and
+    /// yields an error if that fails.
     ///
     /// Authors: `Signed-off-by`, `Co-authored-by`. Others: `Assisted-by`, `Acked-by`, `Reviewed-by`,
     /// `Tested-by`.

@@ -154,7 +154,7 @@ trait Field {
         ensures appended { AppendsOrFails result (S.view sink.old) (S.view sink.new) (written self.now) }
         ensures same_loan { S.loan sink.new ≡ S.loan sink.old };
 
-    /// Adds the size of the field, or returns `None` above 64 bits.
+    /// Adds the size of the field to `size`, or returns `None` above 64 bits.
     fn size_with(&self, size: u64) -> Option<u64>
         ensures { AddsSize result size (written self.now) };
 }

@@ -240,7 +240,7 @@ impl<S: Find> Cursor<'_, S> {
     /// Inserts or replaces an entry like [`Cursor::try_upsert`], and returns the cursor, so that calls chain.
     ///
     /// The contract states the effect on the returned cursor, and nothing of what an error leaves. Callers
-    /// with proofs use [`Cursor::try_upsert`].
+    /// with proofs use [`Cursor::try_upsert`], which allocates the same.
     ///
     /// # Errors
     ///
@@ -301,7 +301,7 @@ impl<S: Find> Cursor<'_, S> {
     /// Removes an entry like [`Cursor::try_remove`], and returns the cursor, so that calls chain.
     ///
     /// The contract states the effect on the returned cursor, and nothing of what an error leaves. Callers
-    /// with proofs use [`Cursor::try_remove`].
+    /// with proofs use [`Cursor::try_remove`], which allocates the same.
     ///
     /// # Errors
     ///
@@ -350,7 +350,7 @@ impl<S: Find> Cursor<'_, S> {
     /// Removes an entry like [`Cursor::try_remove_leaf`], and returns the cursor, so that calls chain.
     ///
     /// The contract states the effect on the returned cursor, and nothing of what an error leaves. Callers
-    /// with proofs use [`Cursor::try_remove_leaf`].
+    /// with proofs use [`Cursor::try_remove_leaf`], which allocates the same.
     ///
     /// # Errors
     ///
@@ -432,7 +432,8 @@ impl<S> Cursor<'_, S> {
     /// Emits the changed open directories below the prefix to `out`, and last the directory at the prefix,
     /// like gix-object's `Cursor::write`.
     ///
-    /// It is [`Cursor::try_write`] with an owned closure, which must be callable as is said there.
+    /// It is [`Cursor::try_write`] with an owned closure, which must be callable as is said there. It allocates
+    /// what that call allocates.
     ///
     /// # Errors
     ///

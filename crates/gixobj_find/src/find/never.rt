@@ -22,7 +22,7 @@ impl Store for Never {
 
 /// Finds no object and never fails. Allocates nothing.
 impl Find for Never {
-    #[tactic(auto, using(crate::proofs::Nothing::is_found_none_in_empty))]
+    #[tactic(auto, using(crate::proofs::NeverResults::is_found_none_in_empty))]
     fn try_find<'a>(
         &self,
         id: oid<'_>,
@@ -38,7 +38,7 @@ impl Find for Never {
 
 /// Returns `false` for each id. Allocates nothing.
 impl Exists for Never {
-    #[tactic(auto, using(crate::proofs::Nothing::not_named_in_empty))]
+    #[tactic(auto, using(crate::proofs::NeverResults::not_named_in_empty))]
     fn exists(&self, id: oid<'_>) -> bool
         ensures store_model { IsFalse false → result
             ≡ is_some (named map.empty (borrowed_id id.entry)) }

@@ -76,6 +76,8 @@ pub trait Write {
 
     /// Writes an object of this kind and content whose id is known. The store may trust the id.
     ///
+    /// What it allocates depends on the store.
+    ///
     /// # Errors
     ///
     /// The errors that the store's `answers_known` states for this id, kind and content.

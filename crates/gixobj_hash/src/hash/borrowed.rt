@@ -21,7 +21,7 @@ pub struct oid<'a> {
 impl<'a> oid<'a> {
     ghost use Rattle.gixobj_hash.specs.Hash.Borrowed.{borrowed_id};
 
-    /// Makes an id of 20 or 32 bytes, which the contract requires.
+    /// Makes an id of 20 or 32 bytes, which the contract requires. Allocates nothing.
     pub fn new(bytes: &'a [u8]) -> oid<'a>
         requires { IsTrue (is_id_length (length bytes.now)) }
         ensures { id_bytes (borrowed_id result) ≡ bytes.now }
@@ -29,7 +29,7 @@ impl<'a> oid<'a> {
         oid { bytes }
     }
 
-    /// Makes an id of 20 or 32 bytes, or returns `None` for any other number of bytes.
+    /// Makes an id of 20 or 32 bytes, or returns `None` for any other number of bytes. Allocates nothing.
     pub fn try_from_bytes(bytes: &'a [u8]) -> Option<oid<'a>>
         ensures accepts { IsSome result ↔ IsTrue (is_id_length (length bytes.now)) }
         ensures value { IfSome result (λ id. id_bytes (borrowed_id id) ≡ bytes.now) }
@@ -41,14 +41,14 @@ impl<'a> oid<'a> {
         }
     }
 
-    /// Returns the hash function of the id.
+    /// Returns the hash function of the id. Allocates nothing.
     pub fn kind(self) -> Kind
         ensures { result ≡ id_kind (borrowed_id self.entry) }
     {
         self.to_owned().kind()
     }
 
-    /// Returns the bytes of the digest, whose number is [`Kind::len_in_bytes`].
+    /// Returns the bytes of the digest, whose number is [`Kind::len_in_bytes`]. Allocates nothing.
     pub fn as_bytes(self) -> &'a [u8]
         ensures value { result.now ≡ id_bytes (borrowed_id self.entry) }
         ensures len { length result.now ≡ hash_len (id_kind (borrowed_id self.entry)) }
@@ -70,14 +70,14 @@ impl<'a> oid<'a> {
         }
     }
 
-    /// Returns whether all bytes are zero.
+    /// Returns whether all bytes are zero. Allocates nothing.
     pub fn is_null(self) -> bool
         ensures { IsTrue result ↔ IsNull (borrowed_id self.entry) }
     {
         self.to_owned().is_null()
     }
 
-    /// Returns whether this is the id of the empty tree.
+    /// Returns whether this is the id of the empty tree. Allocates nothing.
     pub fn is_empty_tree(self) -> bool
         ensures { IsTrue result ↔ (borrowed_id self.entry
             ≡ id_of (id_kind (borrowed_id self.entry)) Tree []) }
@@ -85,7 +85,7 @@ impl<'a> oid<'a> {
         self.to_owned().is_empty_tree()
     }
 
-    /// Writes the id as 40 or 64 hex digits in lower case.
+    /// Writes the id as 40 or 64 hex digits in lower case. Only the writer may allocate.
     ///
     /// # Errors
     ///
@@ -97,7 +97,7 @@ impl<'a> oid<'a> {
         self.to_owned().write_hex_to(out)
     }
 
-    /// Compares the id with the expected one.
+    /// Compares the id with the expected one. Allocates nothing.
     ///
     /// # Errors
     ///

@@ -19,7 +19,7 @@ pub enum Hasher {
 }
 
 impl Hasher {
-    /// Begins a digest of the empty message.
+    /// Begins a digest of the empty message. Allocates nothing.
     pub fn new(kind: Kind) -> Hasher
         ensures { HoldsMessage kind result [] }
     {
@@ -29,7 +29,7 @@ impl Hasher {
         }
     }
 
-    /// Appends bytes to the message.
+    /// Appends bytes to the message. Allocates nothing.
     pub fn update(&mut self, bytes: &[u8])
         ensures { (kind : Kind) (message : List ℕ) → HoldsMessage kind self.old message
             → HoldsMessage kind self.new (message ++ bytes.now) }
@@ -40,7 +40,7 @@ impl Hasher {
         }
     }
 
-    /// Returns the digest of the message as an id.
+    /// Returns the digest of the message as an id. Allocates nothing.
     pub fn finalize(self) -> ObjectId
         ensures { (kind : Kind) (message : List ℕ) → HoldsMessage kind self message
             → result ≡ id_from kind (digest_of kind message) }

@@ -14,7 +14,7 @@ pub enum Kind {
 }
 
 impl Kind {
-    /// Returns the length of a digest in bytes: 20 or 32.
+    /// Returns the length of a digest in bytes: 20 or 32. Allocates nothing.
     pub fn len_in_bytes(&self) -> usize
         ensures { result ≡ hash_len self.now }
     {
@@ -24,7 +24,7 @@ impl Kind {
         }
     }
 
-    /// Returns the length of a digest in hex digits: 40 or 64.
+    /// Returns the length of a digest in hex digits: 40 or 64. Allocates nothing.
     pub fn len_in_hex(&self) -> usize
         ensures { result ≡ 2 * hash_len self.now }
     {

@@ -32,7 +32,7 @@ pub enum ObjectId {
 impl ObjectId {
     /// Decodes an id from exactly 40 or 64 hex digits, of either case.
     ///
-    /// Returns `None` for any other input.
+    /// Returns `None` for any other input. Allocates nothing.
     ///
     /// # Examples
     ///
@@ -53,7 +53,7 @@ impl ObjectId {
         }
     }
 
-    /// Returns the null id, whose bytes are all zero. It names no object.
+    /// Returns the null id, whose bytes are all zero. It names no object. Allocates nothing.
     pub fn null(kind: Kind) -> ObjectId
         ensures value { result ≡ null_id kind }
         ensures is_null { IsNull result }
@@ -64,7 +64,7 @@ impl ObjectId {
         }
     }
 
-    /// Returns the id of the empty tree.
+    /// Returns the id of the empty tree. Allocates nothing.
     pub fn empty_tree(kind: Kind) -> ObjectId
         ensures { result ≡ id_of kind Tree [] }
     {
@@ -74,7 +74,7 @@ impl ObjectId {
         }
     }
 
-    /// Returns the id of the empty blob.
+    /// Returns the id of the empty blob. Allocates nothing.
     pub fn empty_blob(kind: Kind) -> ObjectId
         ensures { result ≡ id_of kind Blob [] }
     {
@@ -87,7 +87,7 @@ impl ObjectId {
 
 /// Access
 impl ObjectId {
-    /// Returns the hash function of the id.
+    /// Returns the hash function of the id. Allocates nothing.
     pub fn kind(&self) -> Kind
         ensures { result ≡ id_kind self.now }
     {
@@ -97,7 +97,7 @@ impl ObjectId {
         }
     }
 
-    /// Returns the bytes of the digest, whose number is [`Kind::len_in_bytes`].
+    /// Returns the bytes of the digest, whose number is [`Kind::len_in_bytes`]. Allocates nothing.
     pub fn as_bytes(&self) -> &[u8]
         ensures value { result.now ≡ id_bytes self.now }
         ensures len { length result.now ≡ hash_len (id_kind self.now) }
@@ -109,28 +109,28 @@ impl ObjectId {
         }
     }
 
-    /// Borrows the id.
+    /// Borrows the id. Allocates nothing.
     pub fn as_oid(&self) -> oid<'_>
         ensures { borrowed_id result ≡ self.now }
     {
         oid::new(self.as_bytes())
     }
 
-    /// Returns whether all bytes are zero.
+    /// Returns whether all bytes are zero. Allocates nothing.
     pub fn is_null(&self) -> bool
         ensures { IsTrue result ↔ IsNull self.now }
     {
         self.as_bytes().iter().all(|byte| *byte == 0)
     }
 
-    /// Returns whether this is the id of the empty tree.
+    /// Returns whether this is the id of the empty tree. Allocates nothing.
     pub fn is_empty_tree(&self) -> bool
         ensures { IsTrue result ↔ (self.now ≡ id_of (id_kind self.now) Tree []) }
     {
         *self == ObjectId::empty_tree(self.kind())
     }
 
-    /// Writes the id as 40 or 64 hex digits in lower case.
+    /// Writes the id as 40 or 64 hex digits in lower case. Only the writer may allocate.
     ///
     /// # Errors
     ///
@@ -146,6 +146,7 @@ impl ObjectId {
     /// Encodes the id as 40 or 64 hex digits in lower case, into a buffer.
     ///
     /// The result borrows the buffer. The contract leaves the contents of the buffer unspecified.
+    /// Allocates nothing.
     pub fn hex_to_buf<'a>(&self, buffer: &'a mut [u8; 64]) -> &'a str
         ensures encoded { result.now ≡ encode_id_hex self.now }
         ensures max_len { length result.now ≤ 64 }
@@ -167,7 +168,7 @@ impl ObjectId {
         input
     }
 
-    /// Compares the id with the expected one.
+    /// Compares the id with the expected one. Allocates nothing.
     ///
     /// # Errors
     ///

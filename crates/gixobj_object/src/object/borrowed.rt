@@ -28,7 +28,7 @@ pub enum ObjectRef<'a> {
 
 /// Access. These calls allocate nothing.
 impl<'a> ObjectRef<'a> {
-    /// Returns the kind of the object.
+    /// Returns the kind of the object. Allocates nothing.
     pub fn kind(&self) -> Kind
         ensures { result ≡ borrowed_kind self.now }
     {
@@ -40,7 +40,7 @@ impl<'a> ObjectRef<'a> {
         }
     }
 
-    /// Returns the tree, or `None` for an object of another kind.
+    /// Returns the tree, or `None` for an object of another kind. Allocates nothing.
     pub fn as_tree(&self) -> Option<&TreeRef<'a>>
         ensures { MatchOption result (borrowed_kind self.now ≢ Kind.Tree)
             (λ tree. self.now ≡ ObjectRef.Tree tree.now) }
@@ -51,7 +51,7 @@ impl<'a> ObjectRef<'a> {
         }
     }
 
-    /// Returns the blob, or `None` for an object of another kind.
+    /// Returns the blob, or `None` for an object of another kind. Allocates nothing.
     pub fn as_blob(&self) -> Option<&BlobRef<'a>>
         ensures { MatchOption result (borrowed_kind self.now ≢ Kind.Blob)
             (λ blob. self.now ≡ ObjectRef.Blob blob.now) }
@@ -62,7 +62,7 @@ impl<'a> ObjectRef<'a> {
         }
     }
 
-    /// Returns the commit, or `None` for an object of another kind.
+    /// Returns the commit, or `None` for an object of another kind. Allocates nothing.
     pub fn as_commit(&self) -> Option<&CommitRef<'a>>
         ensures { MatchOption result (borrowed_kind self.now ≢ Kind.Commit)
             (λ commit. self.now ≡ ObjectRef.Commit commit.now) }
@@ -73,7 +73,7 @@ impl<'a> ObjectRef<'a> {
         }
     }
 
-    /// Returns the tag, or `None` for an object of another kind.
+    /// Returns the tag, or `None` for an object of another kind. Allocates nothing.
     pub fn as_tag(&self) -> Option<&TagRef<'a>>
         ensures { MatchOption result (borrowed_kind self.now ≢ Kind.Tag)
             (λ tag. self.now ≡ ObjectRef.Tag tag.now) }
@@ -84,28 +84,28 @@ impl<'a> ObjectRef<'a> {
         }
     }
 
-    /// Converts the object into its tree, or returns `None` for another kind.
+    /// Converts the object into its tree, or returns `None` for another kind. Allocates nothing.
     pub fn into_tree(self) -> Option<TreeRef<'a>>
         ensures { IsPartOrNone borrowed_kind Kind.Tree ObjectRef.Tree self.entry result }
     {
         TreeRef::try_from(self).ok()
     }
 
-    /// Converts the object into its blob, or returns `None` for another kind.
+    /// Converts the object into its blob, or returns `None` for another kind. Allocates nothing.
     pub fn into_blob(self) -> Option<BlobRef<'a>>
         ensures { IsPartOrNone borrowed_kind Kind.Blob ObjectRef.Blob self.entry result }
     {
         BlobRef::try_from(self).ok()
     }
 
-    /// Converts the object into its commit, or returns `None` for another kind.
+    /// Converts the object into its commit, or returns `None` for another kind. Allocates nothing.
     pub fn into_commit(self) -> Option<CommitRef<'a>>
         ensures { IsPartOrNone borrowed_kind Kind.Commit ObjectRef.Commit self.entry result }
     {
         CommitRef::try_from(self).ok()
     }
 
-    /// Converts the object into its tag, or returns `None` for another kind.
+    /// Converts the object into its tag, or returns `None` for another kind. Allocates nothing.
     pub fn into_tag(self) -> Option<TagRef<'a>>
         ensures { IsPartOrNone borrowed_kind Kind.Tag ObjectRef.Tag self.entry result }
     {

@@ -13,7 +13,7 @@ use gixobj_tree::{Blob, BlobRef, Tree};
 
 /// Conversion
 impl Object {
-    /// Returns the blob as a borrowed one, or `None` for an object of another kind.
+    /// Returns the blob as a borrowed one, or `None` for an object of another kind. Allocates nothing.
     pub fn try_into_blob_ref(&self) -> Option<BlobRef<'_>>
         ensures { MatchOption result (owned_kind self.now ≢ Kind.Blob)
             (λ blob. (b : Blob) × (self.now ≡ Object.Blob b) × (blob.bytes.now ≡ b.bytes.items)) }
@@ -24,7 +24,7 @@ impl Object {
         }
     }
 
-    /// Converts the object into its tree.
+    /// Converts the object into its tree. Allocates nothing.
     ///
     /// # Errors
     ///
@@ -38,7 +38,7 @@ impl Object {
         }
     }
 
-    /// Converts the object into its blob.
+    /// Converts the object into its blob. Allocates nothing.
     ///
     /// # Errors
     ///
@@ -52,7 +52,7 @@ impl Object {
         }
     }
 
-    /// Converts the object into its commit.
+    /// Converts the object into its commit. Allocates nothing.
     ///
     /// # Errors
     ///
@@ -66,7 +66,7 @@ impl Object {
         }
     }
 
-    /// Converts the object into its tag.
+    /// Converts the object into its tag. Allocates nothing.
     ///
     /// # Errors
     ///
@@ -80,7 +80,7 @@ impl Object {
         }
     }
 
-    /// Converts the object into its tree. The object must be a tree.
+    /// Converts the object into its tree. The object must be a tree. Allocates nothing.
     pub fn into_tree(self) -> Tree
         requires { owned_kind self ≡ Kind.Tree }
         ensures { self ≡ Object.Tree result }
@@ -91,7 +91,7 @@ impl Object {
         }
     }
 
-    /// Converts the object into its blob. The object must be a blob.
+    /// Converts the object into its blob. The object must be a blob. Allocates nothing.
     pub fn into_blob(self) -> Blob
         requires { owned_kind self ≡ Kind.Blob }
         ensures { self ≡ Object.Blob result }
@@ -102,7 +102,7 @@ impl Object {
         }
     }
 
-    /// Converts the object into its commit. The object must be a commit.
+    /// Converts the object into its commit. The object must be a commit. Allocates nothing.
     pub fn into_commit(self) -> Commit
         requires { owned_kind self ≡ Kind.Commit }
         ensures { self ≡ Object.Commit result }
@@ -113,7 +113,7 @@ impl Object {
         }
     }
 
-    /// Converts the object into its tag. The object must be a tag.
+    /// Converts the object into its tag. The object must be a tag. Allocates nothing.
     pub fn into_tag(self) -> Tag
         requires { owned_kind self ≡ Kind.Tag }
         ensures { self ≡ Object.Tag result }

@@ -1,3 +1,5 @@
+-- Settling keeps what is open, and each call settles fewer directories: the measures and loop steps of `settle_all`,
+-- `settle_pieces` and `Children::settle`, which call each other.
 use Rattle.std.proofs.Common.{◌∙◌, ◌<◌, arith, List, length, ap, get_or, sym}
 use Rattle.std.specs.List.{flat_map}
 use Rattle.std.specs.declared.alloc.Global.{Global}

@@ -172,16 +172,16 @@ fn unsigned_size<T: Target, A: Tagger>(
 trait Target {
     ghost use Rattle.std.specs.Prelude.{ℕ, List};
 
-    /// The encoding of its line.
+    /// The encoding of the `object` line.
     ghost target_line: { Self → List ℕ };
 
-    /// Writes its line.
+    /// Writes the `object` line.
     fn write_target_line<S: Sink>(&self, sink: &mut S) -> io::Result<()>
         ensures appended { AppendsOrFails result (S.view sink.old) (S.view sink.new)
             (target_line self.now) }
         ensures same_loan { S.loan sink.new ≡ S.loan sink.old };
 
-    /// Adds the size of its line, or returns `None` over 64 bits.
+    /// Adds the size of the `object` line to `size`, or returns `None` above 64 bits.
     fn size_with_target(&self, size: u64) -> Option<u64>
         ensures { AddsSize result size (target_line self.now) };
 }
@@ -224,13 +224,13 @@ trait Tagger {
     ghost use Rattle.std.specs.Prelude.{ℕ, List};
     ghost use Rattle.gixobj_fields.specs.Writing.{RejectedValue};
 
-    /// The encoding of its line, or nothing without a tagger.
+    /// The encoding of the `tagger` line, or nothing without a tagger.
     ghost tagger_line: { Self → List ℕ };
 
     /// Whether this value is rejected after these parts of the line, and no others.
     ghost rejects: { Self → RejectedValue → List ℕ → Type 0 };
 
-    /// Writes its line.
+    /// Writes the `tagger` line, or nothing without a tagger.
     fn write_tagger<S: Sink>(&self, sink: &mut S) -> Result<(), encode::Error>
         ensures written { OnOk result (AppendsAll (S.view sink.old) (S.view sink.new)
             (tagger_line self.now)) }
@@ -240,7 +240,7 @@ trait Tagger {
         ensures room { IfErr result (LacksRoom (rejects self.now) (S.view sink.old)) }
         ensures same_loan { S.loan sink.new ≡ S.loan sink.old };
 
-    /// Adds the size of its line, or returns `None` over 64 bits.
+    /// Adds the size of the `tagger` line to `size`, or returns `None` above 64 bits.
     fn size_with_tagger(&self, size: u64) -> Option<u64>
         ensures { AddsSize result size (tagger_line self.now) };
 }

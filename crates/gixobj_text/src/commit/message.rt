@@ -5,7 +5,7 @@ ghost use Rattle.bstr.specs.BStr.{bstr_bytes};
 ghost use Rattle.gixobj_hash.specs.Optional.{bytes_if_some};
 ghost use Rattle.gixobj_text.specs.TrailerSteps.{is_owned, remaining_bytes};
 ghost use Rattle.gixobj_text.specs.MessageTrailers.{HasTrailerBlock};
-ghost use Rattle.gixobj_text.specs.Summing.{is_multiline};
+ghost use Rattle.gixobj_text.specs.SummaryPieces.{is_multiline};
 ghost use Rattle.gixobj_text.specs.Titles.{SplitsTitle, summary_of};
 ghost use Rattle.gixobj_text.specs.TrailerBlocks.{IsTrailerBlockStart};
 
@@ -92,7 +92,7 @@ impl<'a> BodyRef<'a> {
     ///
     /// The block is the last paragraph, if it consists of trailers. A paragraph with a line that git
     /// generates may have up to three other lines for each trailer (git-interpret-trailers, "DESCRIPTION").
-    #[tactic(auto, using(crate::proofs::Starts::block_start_le_len))]
+    #[tactic(auto, using(crate::proofs::BlockStarts::block_start_le_len))]
     pub fn from_bytes(body: &'a [u8]) -> BodyRef<'a>
         ensures body { bytes_of_body result ≡ body.now }
         ensures start { IsTrailerBlockStart body.now (trailer_block_start result) }

@@ -1,4 +1,4 @@
--- The last of the replies is that to the write.
+-- The last of the replies is that to the write. They are the clauses of `run_and_write`.
 use Rattle.std.proofs.Common.{◌∙◌, ◌∷◌, ◌++◌, ◌≡◌, [], List, Result, Some, ap, refl, subst}
 use Rattle.std.specs.Fn.{FnReturnsAt}
 use Rattle.std.specs.Option.{option_to_list}

@@ -1,5 +1,5 @@
 -- Each step adds one entry.
-use Rattle.gixobj_c.proofs.Filled.{entry_of_done, filled_next}
+use Rattle.gixobj_c.proofs.ConsecutiveEntries.{entry_of_done, filled_next}
 use Rattle.gixobj_c.proofs.entries.fill_entries.Goals as goal
 
 pub loop-filled-preserved : goal.loop-filled-preserved

@@ -12,7 +12,7 @@ use Rattle.gixobj_directories.specs.declared.frames.Frame.{Frame}
 use Rattle.gixobj_directories.proofs.Emitting.{callable_after_folds, if_err_weaken, stopped_at_call}
 use Rattle.gixobj_directories.proofs.BegunFrames.{storable_of_ended}
 use Rattle.gixobj_directories.proofs.WaitingFrames.{EmitsAt, adds_of_ended, called_of_ended, counted_of_ended, emits_at_exists, emits_of_ended, frames_weight, frames_weight_pop, memory_before_begun, memory_of_ended, reverse_push, stopped_in_resume, stopped_in_step, under_way_begun, under_way_ended, under_way_first, under_way_of_equal, under_way_visited, under_way_resumed, waits_of_parent}
-use Rattle.gixobj_open.proofs.Ends.{nil_of_length}
+use Rattle.gixobj_open.proofs.PieceEnds.{nil_of_length}
 use Rattle.gixobj_directories.proofs.walk.emit_below.Goals as goal
 
 pub returns-in_err-frame-clause-error : goal.returns-in_err-frame-clause-error

@@ -1,3 +1,5 @@
+-- The id that the entry of a written directory gets: that of its emitted tree if it is changed, its own if it isn't, and
+-- none if the tree is empty. They are the clauses of `written_id`.
 use Rattle.std.proofs.Common.{◌≡◌, ◌≢◌, ◌∙◌, ℕ, [], ◌∷◌, List, Ok, Err, refl, sym, ap, subst, append-nil}
 use Rattle.std.specs.Fn.{CalledAt}
 use Rattle.gixobj_tree.specs.Entries.{EntryView, Pair}

@@ -1,7 +1,7 @@
 -- The last reply is that of the write.
 use Rattle.std.proofs.Common.{inr, rules}
 use Rattle.gixobj_edit.proofs.Emitted.{is_emitted}
-use Rattle.gixobj_edit.proofs.Framed.{memory_of_frames_error}
+use Rattle.gixobj_edit.proofs.FollowingFrames.{memory_of_frames_error}
 use Rattle.gixobj_edit.proofs.edits.new_trees.Goals as goal
 use Rattle.gixobj_editor.specs.Commands.{emitted_pairs}
 

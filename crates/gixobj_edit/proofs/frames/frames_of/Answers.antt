@@ -1,6 +1,6 @@
 -- Each reply's frames come after those of the replies before it.
 use Rattle.std.proofs.Common.{[]}
-use Rattle.gixobj_edit.proofs.Framed.{error_of_residual, frames_all, frames_error_at, frames_snoc}
+use Rattle.gixobj_edit.proofs.FollowingFrames.{error_of_residual, frames_all, frames_error_at, frames_snoc}
 use Rattle.gixobj_edit.proofs.frames.frames_of.Goals as goal
 use Rattle.gixobj_edit.specs.Frames.{IsFramesEncodeError}
 use Rattle.gixobj_editor.specs.Commands.{emitted_pairs, pairs_of}

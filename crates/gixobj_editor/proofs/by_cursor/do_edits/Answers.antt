@@ -7,7 +7,7 @@ use Rattle.gixobj_tree.specs.Entries.{EntryView}
 use Rattle.gixobj_editor.specs.Commands.{at_cursor}
 use Rattle.gixobj_editor.specs.Replies.{IsEditReply}
 use Rattle.gixobj_editor.proofs.Causes.{no_more_edit_causes, one_more_edit_cause}
-use Rattle.gixobj_editor.proofs.OneMore.{no_more_edits, one_more_edit}
+use Rattle.gixobj_editor.proofs.LongerRuns.{no_more_edits, one_more_edit}
 use Rattle.gixobj_editor.proofs.by_cursor.do_edits.Goals as goal
 
 pub loop-edit-preserved : goal.loop-edit-preserved

@@ -6,7 +6,7 @@ use Rattle.gixobj_tree.specs.Entries.{EntryView}
 use Rattle.gixobj_editor.proofs.Causes.{no_more_causes, one_more_cause}
 use Rattle.gixobj_editor.proofs.Named.{names_history, run_keeps_pairs}
 use Rattle.gixobj_editor.proofs.OneId.{ids_determine_files}
-use Rattle.gixobj_editor.proofs.OneMore.{no_more, one_more}
+use Rattle.gixobj_editor.proofs.LongerRuns.{no_more, one_more}
 use Rattle.gixobj_editor.proofs.running.run.Goals as goal
 
 pub loop-command-preserved : goal.loop-command-preserved

@@ -1,4 +1,4 @@
-use Rattle.gixobj_files.proofs.Formed.{root_alone_is_opened}
+use Rattle.gixobj_files.proofs.WellFormedEdits.{root_alone_is_opened}
 use Rattle.gixobj_files.proofs.laws.single_root_is_opened.Goals as goal
 
 pub returns : goal.returns

@@ -11,7 +11,7 @@ use gixobj_store::{FindHeader, find};
 
 /// Finds no header and never fails. Allocates nothing.
 impl FindHeader for Never {
-    #[tactic(auto, using(crate::proofs::Nothing::is_header_found_none_in_empty))]
+    #[tactic(auto, using(crate::proofs::NeverResults::is_header_found_none_in_empty))]
     fn try_header(&self, id: oid<'_>) -> Result<Option<Header>, find::Error>
         ensures found { IfOk result (IsHeaderFound map.empty (borrowed_id id.entry)) }
         ensures error { IfErr result (IsFindError (λ id. false) (borrowed_id id.entry)) }

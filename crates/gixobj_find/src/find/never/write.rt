@@ -3,7 +3,7 @@ ghost use Rattle.std.specs.Prelude.{◌≡◌, IfErr, IfOk, Ok, Some, length};
 ghost use Rattle.gixobj_fields.specs.StreamHash.{ReadsObject, SkipsExactly};
 ghost use Rattle.gixobj_hash.specs.Hash.{id_of};
 ghost use Rattle.gixobj_hash.specs.declared.hash.kind.Kind.TheVariants.{Sha1};
-ghost use Rattle.gixobj_find.specs.Nothing.{AnswersId, AnswersKnownId, IsReadError};
+ghost use Rattle.gixobj_find.specs.NeverWrites.{AnswersId, AnswersKnownId, IsReadError};
 ghost use Rattle.gixobj_find.specs.Writers.{CannotEncode, IsWrittenObject};
 
 use super::Never;
@@ -44,7 +44,7 @@ impl Write for Never {
     }
 
     /// Returns the SHA-1 id of the object. Never fails. Allocates nothing.
-    #[tactic(auto, using(crate::proofs::Nothing::answers_id_of_content))]
+    #[tactic(auto, using(crate::proofs::NeverResults::answers_id_of_content))]
     fn write_buf(&self, alloc: Global, kind: Kind, from: &[u8]) -> Result<ObjectId, Error>
         ensures answer { AnswersId kind (length from.now) (Some from.now) result }
         ensures id { result ≡ Ok (id_of Sha1 kind from.now) }
@@ -53,7 +53,7 @@ impl Write for Never {
     }
 
     /// Returns the known id. Never fails. Allocates nothing.
-    #[tactic(auto, using(crate::proofs::Nothing::answers_known_id_of_content))]
+    #[tactic(auto, using(crate::proofs::NeverResults::answers_known_id_of_content))]
     fn write_buf_with_known_id(
         &self,
         alloc: Global,

@@ -1,5 +1,5 @@
 use Rattle.std.proofs.Common.{refl}
-use Rattle.gixobj_import.proofs.Legal.{actor_rejected, actors_legal}
+use Rattle.gixobj_import.proofs.LegalActors.{actor_rejected, actors_legal}
 use Rattle.gixobj_import.proofs.commits.bytes_of.Goals as goal
 
 pub returns-in-Ok-clause-encodable : goal.returns-in-Ok-clause-encodable

@@ -6,7 +6,7 @@ use Rattle.gixobj_keep.specs.Keeping.{IsKeepCommitError, with_commit}
 use Rattle.gixobj_import.specs.Commits.{encode_step}
 use Rattle.gixobj_import.proofs.Causes.{commit_cause_of_encode_error}
 use Rattle.gixobj_import.proofs.Digests.{have_hex_of_id, digest_id_kind}
-use Rattle.gixobj_import.proofs.Legal.{encode_step_decodes}
+use Rattle.gixobj_import.proofs.LegalActors.{encode_step_decodes}
 use Rattle.gixobj_import.proofs.Stepping.{encoding_failed}
 use Rattle.gixobj_import.proofs.commits.keep_commit_of.Goals as goal
 use Rattle.gixobj_store.specs.Stores.{store_model}

@@ -1,4 +1,4 @@
-use Rattle.gixobj_import.proofs.Doing.{all_done, no_write_in_edits, one_more_done, rejected_at}
+use Rattle.gixobj_import.proofs.EditsDone.{all_done, no_write_in_edits, one_more_done, rejected_at}
 use Rattle.gixobj_import.proofs.edits.do_edits.Goals as goal
 use Rattle.gixobj_store.specs.Stores.{store_model}
 

@@ -6,9 +6,9 @@ use Rattle.gixobj_import.specs.declared.import.Imported.{Imported}
 use Rattle.gixobj_import.proofs.Causes.{encoding_cause_of_stopped, import_cause_of_step, import_cause_out_of_memory}
 use Rattle.gixobj_import.proofs.Committing.{commits_of_new}
 use Rattle.gixobj_import.proofs.Digests.{adds_by_digest_nil}
-use Rattle.gixobj_import.proofs.Filing.{files_of_new}
+use Rattle.gixobj_import.proofs.StepFiles.{files_of_new}
 use Rattle.gixobj_import.proofs.Adding.{steps_add}
-use Rattle.gixobj_import.proofs.Known.{OfStores}
+use Rattle.gixobj_import.proofs.StoreFacts.{OfStores}
 use Rattle.gixobj_import.proofs.Stepping.{all_imported, slice_get_length_of_get_or, one_more_imported, stopped_at}
 use Rattle.gixobj_import.proofs.Stopping.{commits_of_stopped, files_of_stopped, stopped_adds}
 use Rattle.gixobj_import.proofs.Storing.{steps_stored, stopped_stores}

@@ -9,7 +9,7 @@ use Rattle.gixobj_open.specs.Nested.{parts}
 use Rattle.gixobj_open.specs.declared.copying.Copying.{Copying}
 use Rattle.gixobj_open.specs.declared.open.Child.{Child}
 use Rattle.gixobj_open.proofs.CopiedFrames.{AllCopied, copying_weight, copying_weight_begun, copying_weights, copying_weights_pop, half_copied_begun, half_copied_ended, view_of_copied}
-use Rattle.gixobj_open.proofs.Ends.{nil_of_length}
+use Rattle.gixobj_open.proofs.PieceEnds.{nil_of_length}
 use Rattle.gixobj_open.proofs.copying.copied.Goals as goal
 
 pub frames-init : goal.frames-init

@@ -2,7 +2,7 @@
 use Rattle.std.proofs.Common.{map}
 use Rattle.std.proofs.lemmas.Result.{err_from_is_err_and}
 use Rattle.gixobj_editor.specs.Views.{command_view}
-use Rattle.gixobj_script.proofs.Reading.{is_script_at_end, is_reached_at_last_line, script_error_of_line, is_read_to_snoc, is_reached_at_line}
+use Rattle.gixobj_script.proofs.ScriptDecoding.{is_script_at_end, is_reached_at_last_line, script_error_of_line, is_read_to_snoc, is_reached_at_line}
 use Rattle.gixobj_script.proofs.script.parse_script.Goals as goal
 
 pub returns-in_err-write_line-clause-error : goal.returns-in_err-write_line-clause-error

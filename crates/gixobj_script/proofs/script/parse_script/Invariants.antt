@@ -1,7 +1,7 @@
 -- The lines before the rest, and their commands.
 use Rattle.std.proofs.Common.{length, map}
 use Rattle.gixobj_editor.specs.Views.{command_view}
-use Rattle.gixobj_script.proofs.Reading.{IsReadTo}
+use Rattle.gixobj_script.proofs.ScriptDecoding.{IsReadTo}
 use Rattle.gixobj_script.proofs.script.parse_script.Given as goal
 
 abbrev pub invariant-loop-line : goal.invariant-loop-line

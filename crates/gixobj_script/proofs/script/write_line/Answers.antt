@@ -2,7 +2,7 @@
 use Rattle.std.proofs.Common.{◌≢◌, ap, map, rules, [], ◌∙◌}
 use Rattle.std.proofs.lemmas.List.{map-append}
 use Rattle.gixobj_editor.specs.Views.{command_view}
-use Rattle.gixobj_script.proofs.Reading.{appends_line_of_command}
+use Rattle.gixobj_script.proofs.ScriptDecoding.{appends_line_of_command}
 use Rattle.gixobj_script.specs.Lines.{DecodesToCommand}
 use Rattle.gixobj_script.proofs.script.write_line.Goals as goal
 

@@ -3,7 +3,7 @@ ghost use Rattle.std.specs.Prelude.{◌≡◌, ◌≢◌, ◌≤◌, [], MatchOp
 ghost use Rattle.std.specs.Option.{option_map};
 ghost use Rattle.bstr.specs.BStr.{bstr_bytes};
 ghost use Rattle.gixobj_hash.specs.Optional.{bytes_if_some};
-ghost use Rattle.gixobj_text.specs.Breaks.{IsFromBreak, after_break as after_break_of, after_two_breaks as after_two_of};
+ghost use Rattle.gixobj_text.specs.LineBreaks.{IsFromBreak, after_break as after_break_of, after_two_breaks as after_two_of};
 ghost use Rattle.gixobj_text.specs.Titles.{SplitsTitle};
 
 use bstr::{BStr, ByteSlice};
@@ -40,7 +40,7 @@ fn some_body(body: &[u8]) -> Option<BStr<'_>>
 
 /// Returns the bytes from the first newline or carriage return on.
 #[inline(always)]
-#[tactic(auto, using(crate::proofs::Plain::is_from_break_at_position, crate::proofs::Plain::is_from_break_nil))]
+#[tactic(auto, using(crate::proofs::BreakSkips::is_from_break_at_position, crate::proofs::BreakSkips::is_from_break_nil))]
 fn from_break(bytes: &[u8]) -> &[u8]
     ensures value { IsFromBreak bytes.now result.now }
     ensures within { length result.now ≤ length bytes.now }
@@ -55,7 +55,7 @@ fn from_break(bytes: &[u8]) -> &[u8]
 }
 
 /// Returns the title and the body of a message, without the two line breaks between them.
-#[tactic(auto, using(crate::proofs::Plain::is_unsplit_at_begin, crate::proofs::SplitTitles::splits_title_of_unsplit))]
+#[tactic(auto, using(crate::proofs::BreakSkips::is_unsplit_at_begin, crate::proofs::SplitTitles::splits_title_of_unsplit))]
 pub(super) fn message_title_and_body(message: &[u8]) -> (BStr<'_>, Option<BStr<'_>>)
     ensures { SplitsTitle message.now (bstr_bytes result.0) (bytes_if_some result.1) }
 {

@@ -3,7 +3,7 @@ use Rattle.bstr.specs.Owned.{bstring_bytes}
 use Rattle.gixobj_mode.specs.Mode.{is_tree_mode, mode_bits}
 use Rattle.gixobj_tree.specs.Entries.{EntryView}
 use Rattle.gixobj_files.proofs.WithEntry.{no_other_of_alone, with_entry_of_edits}
-use Rattle.gixobj_files.proofs.Formed.{is_well_formed_with_entry}
+use Rattle.gixobj_files.proofs.WellFormedEdits.{is_well_formed_with_entry}
 use Rattle.gixobj_files.proofs.Stored.{is_stored_of_edit, len_of_edits}
 use Rattle.gixobj_files.proofs.open_entries.Entries.insert.Goals as goal
 

@@ -1,5 +1,5 @@
 use Rattle.std.proofs.Common.{arith}
-use Rattle.gixobj_files.proofs.Formed.{is_well_formed_without}
+use Rattle.gixobj_files.proofs.WellFormedEdits.{is_well_formed_without}
 use Rattle.gixobj_files.proofs.Stored.{is_stored_of_edit}
 use Rattle.gixobj_files.proofs.open_entries.Entries.remove.Goals as goal
 

@@ -13,8 +13,8 @@ use Rattle.gixobj_import.specs.declared.import.Importer.{Importer}
 use Rattle.gixobj_import.proofs.Adding.{rejected_adds, step_adds}
 use Rattle.gixobj_import.proofs.Causes.{encoding_cause_of_step_error}
 use Rattle.gixobj_import.proofs.Digests.{adds_by_digest_nil}
-use Rattle.gixobj_import.proofs.Filing.{step_bases, step_files}
-use Rattle.gixobj_import.proofs.Known.{OfStores}
+use Rattle.gixobj_import.proofs.StepFiles.{step_bases, step_files}
+use Rattle.gixobj_import.proofs.StoreFacts.{OfStores}
 use Rattle.gixobj_import.proofs.Stepping.{no_write_of_step, contains_write_of_reply, rejects_step}
 use Rattle.gixobj_import.proofs.import.Importer.step.Goals as goal
 use Rattle.gixobj_store.specs.Stores.{store_model}

@@ -1,5 +1,5 @@
 use Rattle.std.proofs.Common.{arith}
-use Rattle.gixobj_open.proofs.Ends.{first_is_empty, more_is_empty}
+use Rattle.gixobj_open.proofs.PieceEnds.{first_is_empty, more_is_empty}
 use Rattle.gixobj_open.proofs.open.Children.destroy_empty.Goals as goal
 
 pub destroy_empty-requires : goal.destroy_empty-requires

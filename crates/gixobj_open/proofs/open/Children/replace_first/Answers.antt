@@ -1,7 +1,7 @@
 use Rattle.std.proofs.Common.{◌∙◌, ◌∷◌, ap, sym}
 use Rattle.gixobj_open.specs.Nested.{Opened, parts}
 use Rattle.gixobj_open.proofs.Pieces.{are_filled_with_child}
-use Rattle.gixobj_open.proofs.Ends.{has_first_of_position}
+use Rattle.gixobj_open.proofs.PieceEnds.{has_first_of_position}
 use Rattle.gixobj_open.proofs.open.Children.replace_first.Goals as goal
 
 pub returns-clause-replaced : goal.returns-clause-replaced

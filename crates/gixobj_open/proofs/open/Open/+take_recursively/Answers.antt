@@ -1,3 +1,5 @@
+-- Each step of `take`, at the last name and in an open directory, meets its contract: for its callers by that contract
+-- alone.
 use Rattle.std.proofs.Common.{◌≡◌, ◌∙◌, None, ap, refl}
 use Rattle.bstr.specs.Owned.{bstring_bytes}
 use Rattle.gixobj_files.specs.Editing.{without}

@@ -1,6 +1,6 @@
 use Rattle.std.proofs.Common.{arith, length, ap}
 use Rattle.gixobj_open.specs.Nested.{Opened, child_list, parts}
-use Rattle.gixobj_open.proofs.Ends.{length_first_le, length_of_first}
+use Rattle.gixobj_open.proofs.PieceEnds.{length_first_le, length_of_first}
 use Rattle.gixobj_open.proofs.open.Open.nest.Goals as goal
 
 pub returns-clause-some : goal.returns-clause-some

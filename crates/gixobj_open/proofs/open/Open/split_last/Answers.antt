@@ -2,7 +2,7 @@ use Rattle.std.proofs.Common.{arith, ◌∙◌, ◌++◌, List, length, ap, sym}
 use Rattle.gixobj_open.specs.LeafTrees.{inside_of, leaf_trees}
 use Rattle.gixobj_open.specs.Nested.{Opened, below, child_list, parts}
 use Rattle.gixobj_open.specs.declared.open.Child.{Child}
-use Rattle.gixobj_open.proofs.Ends.{is_pieced_level_before_last, length_before_last}
+use Rattle.gixobj_open.proofs.PieceEnds.{is_pieced_level_before_last, length_before_last}
 use Rattle.gixobj_open.proofs.LeafTrees.{taken_off_of_parts}
 use Rattle.gixobj_open.proofs.Ordered.{level_names_apart}
 use Rattle.gixobj_open.proofs.open.Open.split_last.Goals as goal

@@ -1,4 +1,4 @@
-use Rattle.gixobj_script.proofs.Readings as law
+use Rattle.gixobj_script.proofs.ScriptUniqueness as law
 use Rattle.gixobj_script.proofs.laws.scripts.last_newline_may_be_missing.Goals as goal
 
 pub returns : goal.returns

@@ -1,4 +1,4 @@
-use Rattle.gixobj_script.proofs.Readings as law
+use Rattle.gixobj_script.proofs.ScriptUniqueness as law
 use Rattle.gixobj_script.proofs.laws.scripts.script_has_no_bad_line.Goals as goal
 
 pub returns-clause-one_bad_line : goal.returns-clause-one_bad_line

@@ -1,5 +1,5 @@
 use Rattle.gixobj_script.proofs.EncodedLines as lines
-use Rattle.gixobj_script.proofs.Readings as law
+use Rattle.gixobj_script.proofs.ScriptUniqueness as law
 use Rattle.gixobj_script.proofs.laws.scripts.script_parses_uniquely.Goals as goal
 
 pub returns-clause-one_command : goal.returns-clause-one_command

@@ -44,9 +44,12 @@ pub struct Filtered<'a> {
     filter: Filter,
 }
 
-/// Filters by token, ASCII case ignored. Making a filter allocates nothing.
+/// Filters by token, ASCII case ignored.
 impl<'a> Trailers<'a> {
     /// Returns an iterator over the `Signed-off-by` trailers (git-commit, `--signoff`).
+    ///
+    /// Making the iterator allocates nothing. It allocates each value of several lines that it yields, and
+    /// yields an error if that fails.
     pub fn signed_off_by(self) -> Filtered<'a>
         ensures trailers { all_of result ≡ self.entry }
         ensures filter { filter_of result ≡ SignedOffBy }
@@ -58,6 +61,9 @@ impl<'a> Trailers<'a> {
     }
 
     /// Returns an iterator over the `Co-authored-by` trailers.
+    ///
+    /// Making the iterator allocates nothing. It allocates each value of several lines that it yields, and
+    /// yields an error if that fails.
     pub fn co_authored_by(self) -> Filtered<'a>
         ensures trailers { all_of result ≡ self.entry }
         ensures filter { filter_of result ≡ CoAuthoredBy }
@@ -69,6 +75,9 @@ impl<'a> Trailers<'a> {
     }
 
     /// Returns an iterator over the `Assisted-by` trailers.
+    ///
+    /// Making the iterator allocates nothing. It allocates each value of several lines that it yields, and
+    /// yields an error if that fails.
     pub fn assisted_by(self) -> Filtered<'a>
         ensures trailers { all_of result ≡ self.entry }
         ensures filter { filter_of result ≡ AssistedBy }
@@ -80,6 +89,9 @@ impl<'a> Trailers<'a> {
     }
 
     /// Returns an iterator over the trailers of the change's authors: `Signed-off-by` and `Co-authored-by`.
+    ///
+    /// Making the iterator allocates nothing. It allocates each value of several lines that it yields, and
+    /// yields an error if that fails.
     pub fn authors(self) -> Filtered<'a>
         ensures trailers { all_of result ≡ self.entry }
         ensures filter { filter_of result ≡ Authors }
@@ -92,6 +104,9 @@ impl<'a> Trailers<'a> {
 
     /// Returns an iterator over the trailers of everyone who had a part in the change. Authors:
     /// `Signed-off-by`, `Co-authored-by`. Others: `Assisted-by`, `Acked-by`, `Reviewed-by`, `Tested-by`.
+    ///
+    /// Making the iterator allocates nothing. It allocates each value of several lines that it yields, and
+    /// yields an error if that fails.
     pub fn attributions(self) -> Filtered<'a>
         ensures trailers { all_of result ≡ self.entry }
         ensures filter { filter_of result ≡ Attributions }

@@ -40,7 +40,7 @@ fn above_after(trailing: bool, indented: bool, above: bool) -> bool
 
 impl LineCounts {
     ghost use Rattle.std.specs.Prelude.{ℕ, List, [], ◌∷◌, ◌++◌};
-    ghost use Rattle.gixobj_text.specs.Counting.{Counts, other_count_of as other_of_of};
+    ghost use Rattle.gixobj_text.specs.RunCounts.{Counts, other_count_of as other_of_of};
 
     /// Returns the counts of no lines.
     pub(crate) fn new() -> LineCounts

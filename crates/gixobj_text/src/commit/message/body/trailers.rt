@@ -33,41 +33,42 @@ pub struct TrailerRef<'a> {
 /// Access. Tokens are compared with ASCII case ignored. These calls allocate nothing.
 impl TrailerRef<'_> {
     /// Returns whether the token is `Signed-off-by` (git-commit, `--signoff`), ASCII case ignored.
+    /// Allocates nothing.
     pub fn is_signed_off_by(&self) -> bool
         ensures { result ≡ is_named (codes "Signed-off-by") (bstr_bytes self.now.token) }
     {
         self.is_named(b"Signed-off-by")
     }
 
-    /// Returns whether the token is `Co-authored-by`, ASCII case ignored.
+    /// Returns whether the token is `Co-authored-by`, ASCII case ignored. Allocates nothing.
     pub fn is_co_authored_by(&self) -> bool
         ensures { result ≡ is_named (codes "Co-authored-by") (bstr_bytes self.now.token) }
     {
         self.is_named(b"Co-authored-by")
     }
 
-    /// Returns whether the token is `Assisted-by`, ASCII case ignored.
+    /// Returns whether the token is `Assisted-by`, ASCII case ignored. Allocates nothing.
     pub fn is_assisted_by(&self) -> bool
         ensures { result ≡ is_named (codes "Assisted-by") (bstr_bytes self.now.token) }
     {
         self.is_named(b"Assisted-by")
     }
 
-    /// Returns whether the token is `Acked-by`, ASCII case ignored.
+    /// Returns whether the token is `Acked-by`, ASCII case ignored. Allocates nothing.
     pub fn is_acked_by(&self) -> bool
         ensures { result ≡ is_named (codes "Acked-by") (bstr_bytes self.now.token) }
     {
         self.is_named(b"Acked-by")
     }
 
-    /// Returns whether the token is `Reviewed-by`, ASCII case ignored.
+    /// Returns whether the token is `Reviewed-by`, ASCII case ignored. Allocates nothing.
     pub fn is_reviewed_by(&self) -> bool
         ensures { result ≡ is_named (codes "Reviewed-by") (bstr_bytes self.now.token) }
     {
         self.is_named(b"Reviewed-by")
     }
 
-    /// Returns whether the token is `Tested-by`, ASCII case ignored.
+    /// Returns whether the token is `Tested-by`, ASCII case ignored. Allocates nothing.
     pub fn is_tested_by(&self) -> bool
         ensures { result ≡ is_named (codes "Tested-by") (bstr_bytes self.now.token) }
     {
@@ -76,6 +77,7 @@ impl TrailerRef<'_> {
 
     /// Returns whether the token names anyone who had a part in the change, ASCII case ignored. Authors:
     /// `Signed-off-by`, `Co-authored-by`. Others: `Assisted-by`, `Acked-by`, `Reviewed-by`, `Tested-by`.
+    /// Allocates nothing.
     pub fn is_attribution(&self) -> bool
         ensures { result ≡ names_attribution (bstr_bytes self.now.token) }
     {
@@ -144,7 +146,7 @@ impl<'a> Iterator for Trailers<'a> {
 }
 
 /// Returns the token of the next trailer line, the bytes after its colon, and the lines after it.
-#[tactic(auto, using(crate::proofs::Reading::is_next_trailer_at_line, crate::proofs::Reading::trailers_of_bytes_skip, crate::proofs::Reading::first_is_folded_skip, crate::proofs::Reading::rest_len_lt, crate::proofs::Reading::trailers_of_bytes_nil, crate::proofs::LastLines::last_lines_refl, crate::proofs::LastLines::last_lines_step))]
+#[tactic(auto, using(crate::proofs::TrailerDecoding::is_next_trailer_at_line, crate::proofs::TrailerDecoding::trailers_of_bytes_skip, crate::proofs::TrailerDecoding::first_is_folded_skip, crate::proofs::TrailerDecoding::rest_len_lt, crate::proofs::TrailerDecoding::trailers_of_bytes_nil, crate::proofs::LastLines::last_lines_refl, crate::proofs::LastLines::last_lines_step))]
 fn next_trailer(bytes: &[u8]) -> Option<(&[u8], &[u8], &[u8])>
     ensures { MatchOption result (trailers_of_bytes bytes.now ≡ [])
         (λ it. IsNextTrailer bytes.now it.0.now it.1.now it.2.now) }
@@ -170,7 +172,7 @@ pub(crate) fn is_continuation(line: &[u8]) -> bool
 
 /// Skips the lines that continue a trailer.
 #[inline(always)]
-#[tactic(auto, using(crate::proofs::Reading::parts_of_continuation_line, crate::proofs::Reading::trailers_of_bytes_skip, crate::proofs::Reading::rest_len_lt, crate::proofs::LastLines::last_lines_refl, crate::proofs::LastLines::last_lines_step))]
+#[tactic(auto, using(crate::proofs::TrailerDecoding::parts_of_continuation_line, crate::proofs::TrailerDecoding::trailers_of_bytes_skip, crate::proofs::TrailerDecoding::rest_len_lt, crate::proofs::LastLines::last_lines_refl, crate::proofs::LastLines::last_lines_step))]
 fn after_continuation_lines(bytes: &[u8]) -> &[u8]
     ensures trailers { trailers_of_bytes result.now ≡ trailers_of_bytes bytes.now }
     ensures within { length result.now ≤ length bytes.now }
@@ -191,7 +193,7 @@ fn after_continuation_lines(bytes: &[u8]) -> &[u8]
 
 /// Returns whether the bytes begin with a line that continues a trailer.
 #[inline(always)]
-#[tactic(auto, using(crate::proofs::Reading::no_continuation_lines_at_end, crate::proofs::Folding::first_line_not_folded))]
+#[tactic(auto, using(crate::proofs::TrailerDecoding::no_continuation_lines_at_end, crate::proofs::ContinuationLines::first_line_not_folded))]
 fn has_continuation_lines(bytes: &[u8]) -> bool
     ensures { result ≡ has_lines (continuation_lines bytes.now) }
 {
@@ -205,7 +207,7 @@ fn has_continuation_lines(bytes: &[u8]) -> bool
 }
 
 /// Decodes a trailer from its token, the bytes after its colon, and the lines after that.
-#[tactic(auto, using(crate::proofs::Reading::with_folded_eq_unfolded, crate::proofs::Reading::unfolded_eq_trimmed))]
+#[tactic(auto, using(crate::proofs::TrailerDecoding::with_folded_eq_unfolded, crate::proofs::TrailerDecoding::unfolded_eq_trimmed))]
 fn parse_trailer<'a>(
     alloc: Global,
     token: &'a [u8],
@@ -233,7 +235,7 @@ fn parse_trailer<'a>(
 }
 
 /// Returns the unfolded value of several lines.
-#[tactic(auto, using(crate::proofs::Reading::with_folded_cons, crate::proofs::Reading::with_folded_at_unfolded, crate::proofs::Reading::with_folded_at_end, crate::proofs::Reading::rest_len_lt))]
+#[tactic(auto, using(crate::proofs::TrailerDecoding::with_folded_cons, crate::proofs::TrailerDecoding::with_folded_at_unfolded, crate::proofs::TrailerDecoding::with_folded_at_end, crate::proofs::TrailerDecoding::rest_len_lt))]
 fn unfolded(alloc: Global, first: &[u8], rest: &[u8]) -> Result<Vec<u8>, AllocError>
     ensures { IfOk result (λ it. it.items
         ≡ with_folded (with_piece [] (trimmed first.now)) (lines_of rest.now)) }

@@ -9,7 +9,7 @@ use Rattle.gixobj_editor.specs.declared.editor.error.Error.{Error}
 use Rattle.gixobj_editor.specs.Cursors.{from_root}
 use Rattle.gixobj_editor.specs.Upserts.{IsUpserted}
 use Rattle.gixobj_editor.specs.FailedEdits.{IsAfterFailedEdit, IsLookupError}
-use Rattle.gixobj_editor.proofs.CursorStays.{Stays, known_of_either, edit_failure_unchanged, stays_failed, stays_upserted}
+use Rattle.gixobj_editor.proofs.CursorPrefixes.{Stays, known_of_either, edit_failure_unchanged, stays_failed, stays_upserted}
 use Rattle.gixobj_editor.proofs.editor.cursor.Cursor.try_upsert.Goals as goal
 
 pub returns-in_err-path-clause-after_error : goal.returns-in_err-path-clause-after_error

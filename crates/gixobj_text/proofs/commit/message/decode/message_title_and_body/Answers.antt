@@ -1,8 +1,8 @@
 use Rattle.std.proofs.Common.{None, rules, ◌∷◌, ◌≡◌}
 use Rattle.bstr.specs.BStr.{bstr_bytes}
-use Rattle.gixobj_text.specs.Breaks.{after_two_breaks}
+use Rattle.gixobj_text.specs.LineBreaks.{after_two_breaks}
 use Rattle.gixobj_text.proofs.SplitTitles.{splits_title_of_unsplit, is_split_at_breaks, nil_of_is_empty, splits_title_of_option}
-use Rattle.gixobj_text.proofs.Plain.{is_unsplit_at_next}
+use Rattle.gixobj_text.proofs.BreakSkips.{is_unsplit_at_next}
 use Rattle.gixobj_text.proofs.commit.message.decode.message_title_and_body.Goals as goal
 
 pub returns-in-Some-skip_two_breaks : goal.returns-in-Some-skip_two_breaks

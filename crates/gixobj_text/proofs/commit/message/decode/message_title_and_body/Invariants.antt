@@ -1,5 +1,5 @@
 use Rattle.std.proofs.Common.{length}
-use Rattle.gixobj_text.specs.Breaks.{IsUnsplit}
+use Rattle.gixobj_text.specs.LineBreaks.{IsUnsplit}
 use Rattle.gixobj_text.proofs.commit.message.decode.message_title_and_body.Given as goal
 
 -- no position before the rest has two consecutive line breaks

@@ -1,5 +1,5 @@
 use Rattle.std.proofs.Common.{◌≡◌, ◌∷◌, length}
-use Rattle.gixobj_text.specs.Summing.{summary_of_rest}
+use Rattle.gixobj_text.specs.SummaryPieces.{summary_of_rest}
 use Rattle.gixobj_text.specs.Titles.{pieces_of, summary_of_pieces}
 use Rattle.gixobj_text.proofs.commit.message.summary.joined_lines.Given as goal
 

@@ -4,8 +4,8 @@ use Rattle.gixobj_hash.specs.declared.hash.kind.Kind.TheVariants.{Sha1}
 use Rattle.gixobj_hash.specs.declared.hash.object_id.ObjectId.{ObjectId}
 use Rattle.gixobj_keep.specs.declared.write.Error.TheVariants as write
 use Rattle.gixobj_find.proofs.EncodingErrors.{cannot_encode_to_list}
-use Rattle.gixobj_find.proofs.Nothing.{answers_id_of_content}
-use Rattle.gixobj_find.specs.Nothing.{AnswersId}
+use Rattle.gixobj_find.proofs.NeverResults.{answers_id_of_content}
+use Rattle.gixobj_find.specs.NeverWrites.{AnswersId}
 use Rattle.gixobj_find.proofs.find.never.write.NeverWrite.write.Goals as goal
 
 pub returns-clause-written : goal.returns-clause-written

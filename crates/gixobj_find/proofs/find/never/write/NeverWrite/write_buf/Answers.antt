@@ -1,7 +1,7 @@
 use Rattle.std.proofs.Common.{Ok, Some, length, subst, sym}
 use Rattle.gixobj_hash.specs.declared.hash.object_id.ObjectId.{ObjectId}
-use Rattle.gixobj_find.proofs.Nothing.{answers_id_of_content}
-use Rattle.gixobj_find.specs.Nothing.{AnswersId}
+use Rattle.gixobj_find.proofs.NeverResults.{answers_id_of_content}
+use Rattle.gixobj_find.specs.NeverWrites.{AnswersId}
 use Rattle.gixobj_find.proofs.find.never.write.NeverWrite.write_buf.Goals as goal
 
 pub returns-clause-answer : goal.returns-clause-answer

@@ -1,4 +1,4 @@
-use Rattle.gixobj_find.proofs.Nothing.{answers_known_id_of_content}
+use Rattle.gixobj_find.proofs.NeverResults.{answers_known_id_of_content}
 use Rattle.gixobj_find.proofs.find.never.write.NeverWrite.write_buf_with_known_id.Goals as goal
 
 pub returns-clause-answer : goal.returns-clause-answer

@@ -1,5 +1,5 @@
 use Rattle.std.proofs.Common.{length}
-use Rattle.gixobj_text.specs.Steps.{NoTrailer, HasConsumedAll}
+use Rattle.gixobj_text.specs.LineSteps.{NoTrailer, HasConsumedAll}
 use Rattle.gixobj_text.proofs.commit.message.body.blocks.at_trailer.Given as goal
 
 -- no line before the rest is a trailer line

@@ -1,5 +1,5 @@
 use Rattle.std.proofs.Common.{length}
-use Rattle.gixobj_text.specs.Steps.{ContinuesTrailer, HasConsumedAll}
+use Rattle.gixobj_text.specs.LineSteps.{ContinuesTrailer, HasConsumedAll}
 use Rattle.gixobj_text.proofs.commit.message.body.blocks.skip_trailers.Given as goal
 
 -- each line before the rest is a trailer line or a continuation line

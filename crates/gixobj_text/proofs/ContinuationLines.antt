@@ -7,7 +7,7 @@ use Rattle.bstr.specs.Text.{line_len, lines_of}
 use Rattle.bstr.proofs.lemmas.LineLemmas.{line_len-bounds, lines-step}
 use Rattle.gixobj_text.specs.BodyLines.{begins_indented, is_blank, is_continuation_line, is_indented, without_last_byte}
 use Rattle.gixobj_text.specs.Unfolding.{has_lines}
-use Rattle.gixobj_text.proofs.Reading.{no_continuation_lines_at_end, take_while_folded_cons}
+use Rattle.gixobj_text.proofs.TrailerDecoding.{no_continuation_lines_at_end, take_while_folded_cons}
 
 non_whitespace_is_no_newline : (byte : ℕ) → is_ascii_whitespace byte ≡ false → (byte == 10) ≡ false
 non_whitespace_is_no_newline byte is = grind (arith, nat_tests)

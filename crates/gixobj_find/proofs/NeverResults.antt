@@ -10,7 +10,7 @@ use Rattle.gixobj_hash.specs.Hash.Order.{id_cmp}
 use Rattle.gixobj_hash.specs.declared.hash.kind.Kind.TheVariants.{Sha1}
 use Rattle.gixobj_hash.specs.declared.hash.object_id.ObjectId.{ObjectId}
 use Rattle.gixobj_hash.specs.declared.kind.Kind.{Kind}
-use Rattle.gixobj_find.specs.Nothing.{AnswersId, AnswersKnownId}
+use Rattle.gixobj_find.specs.NeverWrites.{AnswersId, AnswersKnownId}
 
 named_empty : (id : ObjectId) → None ≡ named finite.empty id
 named_empty id = sym (finite.get-empty id_cmp id)

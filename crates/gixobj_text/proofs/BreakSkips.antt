@@ -1,4 +1,4 @@
--- Skipping bytes that begin no line break.
+-- Skipping bytes that begin no line break: for the split of a message into title and body.
 use Rattle.std.proofs.Common.{◌++◌, ◌==◌, ◌≡◌, ◌≢◌, ◌<◌, ◌≤◌, ◌∙◌, ◌∷◌, List, None, Some, [], ap, append-nil, arith, cond, false, length, length-take-le, refl, subst, sym, take, drop, take-append-drop, true, Bool, ℕ}
 use Rattle.std.proofs.lemmas.Bool.Decides.{nat_tests}
 use Rattle.std.proofs.lemmas.List.{drop_more, get_or-take}
@@ -7,7 +7,7 @@ use Rattle.bstr.proofs.Computing.{computing}
 use Rattle.bstr.specs.Bytes.{is_in}
 use Rattle.bstr.specs.Find.{IsFirstByte, Nowhere, Passes}
 use Rattle.gixobj_hash.specs.ByteStrings.{IsByteFree}
-use Rattle.gixobj_text.specs.Breaks.{BeginsBreak, IsFromBreak, IsUnsplit, after_next_break, after_carriage_return, after_two_breaks}
+use Rattle.gixobj_text.specs.LineBreaks.{BeginsBreak, IsFromBreak, IsUnsplit, after_next_break, after_carriage_return, after_two_breaks}
 use Rattle.gixobj_text.proofs.SplitTitles.{is_unsplit_refl, is_unsplit_step}
 
 abbrev break_bytes : List ℕ

@@ -10,7 +10,7 @@ use Rattle.gixobj_files.specs.Files.{Path, Trees}
 use Rattle.gixobj_files.specs.Opening.{Dirs, IsOpened}
 use Rattle.gixobj_files.specs.State.{EditorFiles, State, open_bases, open_dirs}
 use Rattle.gixobj_files.proofs.EditedFiles.{same_files_refl}
-use Rattle.gixobj_files.proofs.PrefixStays.{removed_dirs_keep_prefix, upserted_dirs_keep_prefix}
+use Rattle.gixobj_files.proofs.OpenPrefixes.{removed_dirs_keep_prefix, upserted_dirs_keep_prefix}
 use Rattle.gixobj_files.proofs.StillOpenedOpenings.{opens_keeps_open_lists}
 use Rattle.gixobj_hash.specs.Hash.{null_id}
 use Rattle.gixobj_hash.specs.declared.hash.object_id.ObjectId.{ObjectId}

@@ -7,7 +7,7 @@ use Rattle.gixobj_editor.specs.Views.{CommandView}
 use Rattle.gixobj_hash.specs.declared.hash.kind.Kind as hash
 use Rattle.gixobj_hash.proofs.SplitsAtEach.{flat_map_ended_append, split_at_each_unique, split_at_each_exists}
 use Rattle.gixobj_script.proofs.EncodedLines.{command_unique}
-use Rattle.gixobj_script.proofs.Reading.{filled_lines_snoc}
+use Rattle.gixobj_script.proofs.ScriptDecoding.{filled_lines_snoc}
 use Rattle.gixobj_script.specs.Lines.{DecodesToCommand}
 use Rattle.gixobj_hash.specs.Splits.{IsSplitAtEach}
 use Rattle.gixobj_script.specs.Scripts.{IsBadLine, IsFirstBad, IsGoodLine, IsScript, filled_lines}

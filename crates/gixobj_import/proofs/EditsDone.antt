@@ -1,5 +1,5 @@
 -- Edits that are done, and the write after them, make the files of their steps, and the store keeps the emitted trees:
--- for `do_edits`, `Adding` and `Filing`.
+-- for `do_edits`, `Adding` and `StepFiles`.
 use Rattle.std.proofs.Common.{◌≡◌, ◌∙◌, ◌<◌, ◌≤◌, ◌+◌, ℕ, zero, suc, Some, List, [], ◌∷◌, ◌++◌, ap, arith, get_or, length, refl, subst, sym, take}
 use Rattle.std.proofs.lemmas.List.{take_all, take_more}
 use Rattle.std.specs.List.{flat_map}

@@ -6,7 +6,7 @@ use Rattle.std.specs.Ordering.{nat_cmp}
 use Rattle.gixobj_files.specs.Editing.{same_name}
 use Rattle.gixobj_hash.proofs.Splits.{no_split_of_byte_free}
 use Rattle.gixobj_hash.specs.ByteStrings.{IsByteFree}
-use Rattle.gixobj_tree.proofs.Deciding.{splits_at_or_byte_free}
+use Rattle.gixobj_tree.proofs.DecidableTrees.{splits_at_or_byte_free}
 use Rattle.gixobj_tree.specs.Entries.{EntryView}
 use Rattle.gixobj_tree.specs.KeyOrder.{ComesBefore, entry_key}
 use Rattle.gixobj_tree.specs.WellFormed.{EachLater, IsEntryName, IsWellFormed}

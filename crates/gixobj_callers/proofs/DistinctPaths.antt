@@ -3,7 +3,7 @@ use Rattle.std.proofs.Common.{◌≡◌, ◌≢◌, ◌∙◌, ◌⊎◌, ℕ, L
 use Rattle.std.specs.List.{AllByRecursion}
 use Rattle.gix_object.specs.Entries.{EntryView}
 use Rattle.gix_object.specs.Files.{ContainsEntry, Path}
-use Rattle.gixobj_callers.specs.Uploads.{Once}
+use Rattle.gixobj_callers.specs.Uploads.{AreDistinctPaths}
 
 -- each path begins with a name of these
 abbrev pub Starts : (List ℕ → Type 0) → List Path → Type 0
@@ -43,11 +43,12 @@ all_paths_differ_map_under : (name : List ℕ) (path : Path) (paths : List Path)
 all_paths_differ_map_under name path [] others = tt
 all_paths_differ_map_under name path (q ∷ paths) others = ((λ same. others.0 (cc same)), all_paths_differ_map_under name path paths others.1)
 
-once_map_under : (name : List ℕ) (paths : List Path) → Once paths → Once (map (under name) paths)
+once_map_under : (name : List ℕ) (paths : List Path) → AreDistinctPaths paths → AreDistinctPaths (map (under name) paths)
 once_map_under name [] once = tt
 once_map_under name (path ∷ paths) once = (all_paths_differ_map_under name path paths once.0, once_map_under name paths once.1)
 
-once_append : (xs ys : List Path) → Once xs → Once ys → AllByRecursion (λ (x : Path). AllByRecursion (λ (y : Path). x ≢ y) ys) xs → Once (xs ++ ys)
+once_append : (xs ys : List Path) → AreDistinctPaths xs → AreDistinctPaths ys
+    → AllByRecursion (λ (x : Path). AllByRecursion (λ (y : Path). x ≢ y) ys) xs → AreDistinctPaths (xs ++ ys)
 once_append [] ys once_x once_y apart = once_y
 once_append (x ∷ xs) ys once_x once_y apart = (all_joined (λ (y : Path). x ≢ y) xs ys once_x.0 apart.0, once_append xs ys once_x.1 once_y apart.1)
 
@@ -68,8 +69,9 @@ under_paths_differ_of_starts name (path ∷ paths) others starts = (
 )
 
 -- the paths below a directory of this name, that directory at most once, and the paths below others
-pub once_under_append : (P : List ℕ → Type 0) (name : List ℕ) (low late : List Path) → Once low → Once late → Starts (λ other. other ≢ name) late
-    → Once (map (under name) low ++ late)
+pub once_under_append : (P : List ℕ → Type 0) (name : List ℕ) (low late : List Path) → AreDistinctPaths low → AreDistinctPaths late
+    → Starts (λ other. other ≢ name) late
+    → AreDistinctPaths (map (under name) low ++ late)
 once_under_append P name low late once_low once_late starts = once_append (map (under name) low) late (once_map_under name low once_low) once_late
     (under_paths_differ_of_starts name low late starts)
 
@@ -82,9 +84,10 @@ under_paths_differ_of_name_and_starts P name (path ∷ paths) others ((first, re
   under_paths_differ_of_name_and_starts P name paths others starts apart,
 )
 
-pub once_under_append_name : (P : List ℕ → Type 0) (name : List ℕ) (low late : List Path) → Once low → Starts P low → Once late
+pub once_under_append_name : (P : List ℕ → Type 0) (name : List ℕ) (low late : List Path) → AreDistinctPaths low → Starts P low
+    → AreDistinctPaths late
     → Starts (λ other. other ≢ name) late
-    → Once (map (under name) low ++ (name ∷ []) ∷ late)
+    → AreDistinctPaths (map (under name) low ++ (name ∷ []) ∷ late)
 once_under_append_name P name low late once_low deeper once_late starts =
     once_append (map (under name) low) ((name ∷ []) ∷ late) (once_map_under name low once_low) (all_paths_differ_of_starts name [] late starts, once_late)
     (under_paths_differ_of_name_and_starts P name low late deeper starts)
@@ -101,12 +104,14 @@ entry_name_ne e (y ∷ rest) others name (x, has, named) = λ same. ⊎_elim
 abbrev pub IsPerhaps : List ℕ → List Path → Type 0
 IsPerhaps name mid = (mid ≡ []) ⊎ (mid ≡ (name ∷ []) ∷ [])
 
-pub once_under_append_append : (P : List ℕ → Type 0) (name : List ℕ) (low mid late : List Path) → IsPerhaps name mid → Once low → Starts P low → Once late
-    → Starts (λ other. other ≢ name) late → Once (map (under name) low ++ (mid ++ late))
+pub once_under_append_append : (P : List ℕ → Type 0) (name : List ℕ) (low mid late : List Path) → IsPerhaps name mid → AreDistinctPaths low → Starts P low
+    → AreDistinctPaths late
+    → Starts (λ other. other ≢ name) late → AreDistinctPaths (map (under name) low ++ (mid ++ late))
 once_under_append_append P name low mid late (inl none) once_low deeper once_late starts =
-    subst (λ (m : List Path). Once (map (under name) low ++ (m ++ late))) (sym none) (once_under_append P name low late once_low once_late starts)
+    subst (λ (m : List Path). AreDistinctPaths (map (under name) low ++ (m ++ late))) (sym none) (once_under_append P name low late once_low once_late starts)
 once_under_append_append P name low mid late (inr one) once_low deeper once_late starts =
-    subst (λ (m : List Path). Once (map (under name) low ++ (m ++ late))) (sym one) (once_under_append_name P name low late once_low deeper once_late starts)
+    subst (λ (m : List Path). AreDistinctPaths (map (under name) low ++ (m ++ late))) (sym one)
+    (once_under_append_name P name low late once_low deeper once_late starts)
 
 pub starts_under_append_append : (P : List ℕ → Type 0) (name : List ℕ) (low mid late : List Path) → IsPerhaps name mid → P name → Starts P late
     → Starts P (map (under name) low ++ (mid ++ late))

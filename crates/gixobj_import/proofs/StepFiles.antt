@@ -21,9 +21,9 @@ use Rattle.gixobj_import.specs.declared.import.Imported.{Imported}
 use Rattle.gixobj_import.specs.declared.import.Importer.{Importer}
 use Rattle.gixobj_import.specs.declared.import.Step.{Step}
 use Rattle.gixobj_import.proofs.Adding.{kept_so, objects_of}
-use Rattle.gixobj_import.proofs.Doing.{bases_remaining, files_remaining, named_files}
-use Rattle.gixobj_import.proofs.Known.{OfStores}
-use Rattle.gixobj_import.proofs.Sets.{nothing_based, nothing_open}
+use Rattle.gixobj_import.proofs.EditsDone.{bases_remaining, files_remaining, named_files}
+use Rattle.gixobj_import.proofs.StoreFacts.{OfStores}
+use Rattle.gixobj_import.proofs.EmptyEditors.{nothing_based, nothing_open}
 use Rattle.gixobj_files.proofs.EditedFiles.{same_files_sym, same_files_trans}
 use Rattle.gixobj_files.proofs.Histories.{history_append, history_congruent}
 use Rattle.gixobj_files.specs.PlainHistory.{NoFiles}
