@@ -10,9 +10,9 @@ encode_owned_actor_is_canonical line actor is = record {
   name = bstring_bytes actor.name;
   email = bstring_bytes actor.email;
   time = is.time;
-  announced = actor.time;
+  time_or_default = actor.time;
   read = is.read;
-  is_time = is.announced;
+  is_time = is.time_or_default;
   encodes = refl;
 }
 

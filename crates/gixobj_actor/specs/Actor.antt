@@ -108,4 +108,4 @@ pub record IsTrimmedActor (line : List ℕ) (actor : SignatureRef) : Type 0 wher
 pub record IsOwnedActor (line : List ℕ) (actor : Signature) : Type 0 where
   pub time : List ℕ
   pub read : IsActor line (bstring_bytes actor.name) (bstring_bytes actor.email) time
-  pub announced : IsTimeOrDefault time actor.time
+  pub time_or_default : IsTimeOrDefault time actor.time

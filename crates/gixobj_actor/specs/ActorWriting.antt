@@ -46,10 +46,10 @@ pub record IsCanonical (line written : List ℕ) : Type 0 where
   pub name : List ℕ
   pub email : List ℕ
   pub time : List ℕ
-  pub announced : Time
+  pub time_or_default : Time
   pub read : IsActor line name email time
-  pub is_time : IsTimeOrDefault time announced
-  pub encodes : written ≡ encode_actor name email (encode_time announced.seconds announced.offset)
+  pub is_time : IsTimeOrDefault time time_or_default
+  pub encodes : written ≡ encode_actor name email (encode_time time_or_default.seconds time_or_default.offset)
 
 -- the line is an actor whose name or email can't be written
 abbrev pub IsUnwritable : List ℕ → Type 0

@@ -18,7 +18,7 @@ pub record IsTimeOfLine (line : List ℕ) (it : Time) : Type 0 where
   pub email : List ℕ
   pub time : List ℕ
   pub read : IsActor line name email time
-  pub announced : IsTimeOrDefault time it
+  pub time_or_default : IsTimeOrDefault time it
 
 -- the owned commit has these lines: ids, untrimmed actors and times are decoded, and all else is copied
 pub record IsOwnedFormOfCommit (lines : CommitLines) (commit : Commit) : Type 0 where

@@ -15,7 +15,7 @@ use Rattle.gixobj_files.specs.declared.written_tree.WrittenTree.{WrittenTree}
 use Rattle.gixobj_files.specs.declared.written_tree.WrittenTree.TheVariants.{Prefix}
 use Rattle.gixobj_directories.specs.Calls.{IsStorable}
 use Rattle.gixobj_open.specs.Children.{remaining_list}
-use Rattle.gixobj_directories.specs.Frames.{Ahead, EmitsAfter, EmitsNext, EmitsWritten, HasCome, HasResumed, IsBegun, IsInStep, Waits, child_weight, frame_weight, held_entries, written_entries, remaining_entries, weight_of}
+use Rattle.gixobj_directories.specs.Frames.{Ahead, EmitsAfter, EmitsNext, EmitsWritten, HasEmitted, HasResumed, IsBegun, IsInStep, Waits, child_weight, frame_weight, held_entries, written_entries, remaining_entries, weight_of}
 use Rattle.gixobj_directories.specs.TakenTrees.{child_leaf_trees}
 use Rattle.gixobj_open.specs.LeafTrees.{inside_of, leaf_trees}
 use Rattle.gixobj_open.specs.Nested.{IsLevel, Opened, base_side, bases_of, below, dirs_of, entries_side, opened, parts, under}
@@ -66,7 +66,7 @@ module _ (f : Frame) (es base : List EntryView) (cs : List Child) (view : opened
   remaining_at_first = ap (λ n. drop n (held_entries f.tree)) first ∙ held
 
   pub has_come_first : IsLevel es (parts cs) → AreNonEmpty (λ (p : Vec Child Global). p.items) f.remaining.more.now
-      → bases_of f.node.now [] ≡ Some f.base.now → f.written_tree ≡ Prefix 0 → HasCome f [] [] 0
+      → bases_of f.node.now [] ≡ Some f.base.now → f.written_tree ≡ Prefix 0 → HasEmitted f [] [] 0
   has_come_first level filled based written_tree =
       let none : written_entries f ≡ [] = ap (so_far f.base.now) written_tree in record {
         in_step = record {
@@ -141,8 +141,8 @@ module _ (f : Frame) (e : EntryView) (low : f.next < length (held_entries f.tree
 
   pub has_come_visited : AreNonEmpty (λ (p : Vec Child Global). p.items) r.more.now → (o : WrittenTree) (inner : List Pair) (kept : List EntryView) (k : ℕ)
       → EmitsEntry (child_side entries_side next) (child_side base_side next) e inner kept k → so_far f.base.now o ≡ written_entries f ++ kept
-      → SharesBase f.base.now o → (ps : List Pair) (ts : List (List EntryView)) (count : ℕ) → HasCome f ps ts count
-      → HasCome (record { node = f.node; base = f.base; tree = f.tree; next = f.next + 1; remaining = r; written_tree = o }) (ps ++ inner)
+      → SharesBase f.base.now o → (ps : List Pair) (ts : List (List EntryView)) (count : ℕ) → HasEmitted f ps ts count
+      → HasEmitted (record { node = f.node; base = f.base; tree = f.tree; next = f.next + 1; remaining = r; written_tree = o }) (ps ++ inner)
       (ts ++ child_leaf_trees next) (count + k)
   has_come_visited filled o inner kept k emits written_tree shares ps ts count come = record {
     in_step = in_step_after come.in_step filled (f.next + 1) o shares;
@@ -153,7 +153,7 @@ module _ (f : Frame) (e : EntryView) (low : f.next < length (held_entries f.tree
   }
 
   pub waits_for_child : AreNonEmpty (λ (p : Vec Child Global). p.items) r.more.now → (node : Opened) → IsBegun next node
-      → (ps : List Pair) (ts : List (List EntryView)) (count : ℕ) → HasCome f ps ts count
+      → (ps : List Pair) (ts : List (List EntryView)) (count : ℕ) → HasEmitted f ps ts count
       → Waits (record { node = f.node; base = f.base; tree = f.tree; next = f.next; remaining = r; written_tree = f.written_tree }) node ps ts count
   waits_for_child filled node begun ps ts count come = record {
     entry = e;
@@ -198,7 +198,7 @@ module _ (f : Frame) (e : EntryView) (low : f.next < length (held_entries f.tree
   )
 
 -- a frame without remaining entries
-module _ (f : Frame) (none : remaining_entries f ≡ []) (ps : List Pair) (ts : List (List EntryView)) (count : ℕ) (come : HasCome f ps ts count) where
+module _ (f : Frame) (none : remaining_entries f ≡ []) (ps : List Pair) (ts : List (List EntryView)) (count : ℕ) (come : HasEmitted f ps ts count) where
   walks_of_ended : EmitsEntries (dirs_of f.node.now) (bases_of f.node.now) (held_entries f.tree) ps (written_entries f) count
   walks_of_ended =
       let walk = come.walked [] [] 0
@@ -220,7 +220,7 @@ module _ (f : Frame) (none : remaining_entries f ≡ []) (ps : List Pair) (ts : 
 -- the frame above goes on after a directory that ended
 module _ (old done : Frame) (e : EntryView) (is : e ≡ get_or (held_entries old.tree) old.next e) (none : remaining_entries done ≡ [])
     (more : List Pair) (kept : List EntryView) (k : ℕ) (emits : EmitsWritten done.base.now e (written_entries done) more kept k) where
-  emits_entry_of_ended : (qs : List Pair) (us : List (List EntryView)) (n : ℕ) → HasCome done qs us n
+  emits_entry_of_ended : (qs : List Pair) (us : List (List EntryView)) (n : ℕ) → HasEmitted done qs us n
       → EmitsEntry (dirs_of done.node.now) (bases_of done.node.now) e (qs ++ more) kept (n + k)
   emits_entry_of_ended qs us n come = emits (dirs_of done.node.now) (bases_of done.node.now) qs n come.in_step.based
       (emits_below_of_ended done none qs us n come)

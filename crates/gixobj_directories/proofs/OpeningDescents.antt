@@ -8,7 +8,7 @@ use Rattle.gixobj_files.specs.Editing.{same_name}
 use Rattle.gixobj_files.specs.Bases.{base_opened}
 use Rattle.gixobj_files.specs.Edits.{Opens, counted, arrived, down, found, only_open, stops, with_dir, with_path}
 use Rattle.gixobj_files.specs.Files.{Path, Trees}
-use Rattle.gixobj_files.specs.OpeningStops.{StopsOpening, at_once, without_answer}
+use Rattle.gixobj_files.specs.OpeningStops.{StopsOpening, before_lookup, at_lookup}
 use Rattle.gixobj_files.specs.OpeningStops as halting
 use Rattle.gixobj_files.specs.Opening.{Dirs, HasAt, IsOpened, in_dir, in_path}
 use Rattle.gixobj_files.proofs.HasTrees.{entry_of_has_tree}
@@ -52,8 +52,8 @@ module _ {StopsBefore : EntryView → Type 0} (trees : Trees) where
 
   halts_nil : (path : Path) (old new : Dirs) (looked_up : List ObjectId) (failed : Option ObjectId)
       → StopsOpening StopsBefore trees path old new looked_up failed → path ≢ []
-  halts_nil path old new looked_up failed (at_once name rest d e own tree free none) is = cc is
-  halts_nil path old new looked_up failed (without_answer name rest d e own tree free none filled) is = cc is
+  halts_nil path old new looked_up failed (before_lookup name rest d e own tree free none) is = cc is
+  halts_nil path old new looked_up failed (at_lookup name rest d e own tree free none filled) is = cc is
   halts_nil path old new looked_up failed (halting.down name rest d inner e entries more v has named there halts) is = cc is
   halts_nil path old new looked_up failed (halting.found name rest d inner e entries first more v own tree free none finds halts) is = cc is
 
@@ -107,11 +107,11 @@ module _ {StopsBefore : EntryView → Type 0} (trees : Trees) where
   pub halts_stays : (path : Path) (old new : Dirs) (looked_up : List ObjectId) (failed : Option ObjectId)
       → StopsOpening StopsBefore trees path old new looked_up failed → (name : List ℕ) → path ≡ name ∷ [] → (rest : Path)
       → StopsOpening StopsBefore trees (name ∷ rest) old new looked_up failed
-  halts_stays path old new looked_up failed (at_once n after d e own tree free none) name is rest =
-      subst (λ (m : List ℕ). StopsOpening StopsBefore trees (m ∷ rest) d d [] None) (same_head n name after [] is) (at_once n rest d e own tree free none)
-  halts_stays path old new looked_up failed (without_answer n after d e own tree free none filled) name is rest =
+  halts_stays path old new looked_up failed (before_lookup n after d e own tree free none) name is rest =
+      subst (λ (m : List ℕ). StopsOpening StopsBefore trees (m ∷ rest) d d [] None) (same_head n name after [] is) (before_lookup n rest d e own tree free none)
+  halts_stays path old new looked_up failed (at_lookup n after d e own tree free none filled) name is rest =
       subst (λ (m : List ℕ). StopsOpening StopsBefore trees (m ∷ rest) d d (e.id ∷ []) (Some e.id)) (same_head n name after [] is)
-      (without_answer n rest d e own tree free none filled)
+      (at_lookup n rest d e own tree free none filled)
   halts_stays path old new looked_up failed (halting.down n after d inner e entries more v has named there halts) name is rest =
       absurd (halts_nil after (in_dir n d) inner more v halts (same_tail n name after [] is))
   halts_stays path old new looked_up failed (halting.found n after d inner e entries first more v own tree free none finds halts) name is rest =

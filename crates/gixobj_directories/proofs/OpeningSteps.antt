@@ -15,7 +15,7 @@ use Rattle.gixobj_files.specs.Editing.{same_name}
 use Rattle.gixobj_files.specs.Edits.{Finds, IsEntryOf, Opens, counted, down, found, only_open, raised, stops, with_dir}
 use Rattle.gixobj_files.specs.Files.{ContainsEntry, Path, Trees}
 use Rattle.gixobj_open.specs.Nested.{IsLevel, Opened, Part, dirs_of, in_part, opened, parts, with_part}
-use Rattle.gixobj_files.specs.OpeningStops.{StopsOpening, at_once, without_answer}
+use Rattle.gixobj_files.specs.OpeningStops.{StopsOpening, before_lookup, at_lookup}
 use Rattle.gixobj_files.specs.OpeningStops as halting
 use Rattle.gixobj_files.specs.Opening.{Dirs, HasAt, IsOpened, in_dir}
 use Rattle.gixobj_files.specs.Tables.{IsNeverLookedUp}
@@ -256,7 +256,7 @@ pub stops_opening_for_memory : (StopsBefore : EntryView → Type 0) (trees : Tre
     → ((at : Path) → in_part name (parts cs) at ≡ None) → (e : EntryView) → IsEntryOf name (Some es) e → is_tree_mode e.mode ≡ true → (StopsBefore e → ⊥)
     → StopsOpening StopsBefore trees (name ∷ rest) (dirs_of (opened es [] (parts cs))) (dirs_of (opened es [] (parts cs))) [] None
 stops_opening_for_memory StopsBefore trees name rest es cs level none e entry tree free =
-    at_once name rest (dirs_of (opened es [] (parts cs))) e entry tree free
+    before_lookup name rest (dirs_of (opened es [] (parts cs))) e entry tree free
     (λ at. dirs_of_opened_cons es [] (parts cs) name at (level_names_apart level) ∙ none at)
 
 -- an opening stops at a directory whose tree isn't found
@@ -267,7 +267,7 @@ pub stops_opening_not_found : (StopsBefore : EntryView → Type 0) (trees : Tree
     (e.id ∷ [])
     (Some e.id)
 stops_opening_not_found StopsBefore trees name rest es cs level none e entry tree free filled =
-    without_answer name rest (dirs_of (opened es [] (parts cs))) e entry tree free
+    at_lookup name rest (dirs_of (opened es [] (parts cs))) e entry tree free
     (λ at. dirs_of_opened_cons es [] (parts cs) name at (level_names_apart level) ∙ none at) filled
 
 -- the invariant of open directories holds in the directory above

@@ -8,7 +8,7 @@ use denote.Ref.{Bor}
 use Rattle.gixobj_tree.specs.Entries.{EntryView, Pair}
 use Rattle.gixobj_files.specs.Edits.{raised}
 use Rattle.gixobj_files.specs.Emission.{EmitsBelow, EmitsEntries, of_entries}
-use Rattle.gixobj_directories.specs.Frames.{EmitsAfter, EmitsNext, HasCome, HasResumed, HasStepped, Waits, frame_weight, held_entries, written_entries, remaining_entries}
+use Rattle.gixobj_directories.specs.Frames.{EmitsAfter, EmitsNext, HasEmitted, HasResumed, HasStepped, Waits, frame_weight, held_entries, written_entries, remaining_entries}
 use Rattle.gixobj_directories.specs.TakenTrees.{Adds}
 use Rattle.gixobj_open.specs.LeafTrees.{inside_of, leaf_trees}
 use Rattle.gixobj_open.specs.Nested.{Opened, bases_of, dirs_of}
@@ -88,13 +88,13 @@ pub record IsUnderWay {F : Type 0} (gave : F → Pair → F → Type 0) (root : 
   pub m : ℕ
   pub n : ℕ
   pub waiting : AllWait root fs f.node.now before first m
-  pub come : HasCome f qs us n
+  pub come : HasEmitted f qs us n
   pub adds : Adds had has (first ++ us) (before ++ qs)
   pub counted : is ≡ raised was (m + n)
   pub called : FoldsTo gave old (before ++ qs) new
 
 module _ {F : Type 0} {gave : F → Pair → F → Type 0} {root : Opened} {old : F} {had : List Pair} {was : ℕ} where
-  pub under_way_first : (f : Frame) → f.node.now ≡ root → HasCome f [] [] 0 → IsUnderWay gave root old old had had was was [] f
+  pub under_way_first : (f : Frame) → f.node.now ≡ root → HasEmitted f [] [] 0 → IsUnderWay gave root old old had had was was [] f
   under_way_first f node come = record {
     before = [];
     qs = [];
@@ -145,7 +145,7 @@ module _ {F : Type 0} {gave : F → Pair → F → Type 0} {root : Opened} {old 
     pub under_way_ended : HasStepped step.Ends f g more further → IsUnderWay gave root old new had has' was is fs g
     under_way_ended stepped = under_way_visited (λ ps ts count come. (stepped ps ts count come).0)
 
-    pub under_way_begun : (inner : Bor Opened) → HasStepped (step.Begins inner) f g more further → (h : Frame) → h.node.now ≡ inner.now → HasCome h [] [] 0
+    pub under_way_begun : (inner : Bor Opened) → HasStepped (step.Begins inner) f g more further → (h : Frame) → h.node.now ≡ inner.now → HasEmitted h [] [] 0
         → IsUnderWay gave root old new had has' was is (g ∷ fs) h
     under_way_begun inner stepped h same come = record {
       before = so.before ++ (so.qs ++ more);

@@ -65,8 +65,8 @@ HasWalked f ps count = (qs : List Pair) (written_tree : List EntryView) (n : ℕ
     (written_entries f ++ written_tree)
     (count + n)
 
--- what came of a frame: these pairs, leaf trees, and this number of unchanged directories
-pub record HasCome (f : Frame) (ps : List Pair) (ts : List (List EntryView)) (count : ℕ) : Type 0 where
+-- what a frame has emitted so far: these pairs, leaf trees, and this number of unchanged directories
+pub record HasEmitted (f : Frame) (ps : List Pair) (ts : List (List EntryView)) (count : ℕ) : Type 0 where
   pub in_step : IsInStep f (remaining_entries f)
   pub walked : HasWalked f ps count
   pub trees : ts ++ leaf_trees (below (parts (remaining_list f.remaining))) ≡ leaf_trees (inside_of f.node.now)
@@ -75,7 +75,7 @@ pub record HasCome (f : Frame) (ps : List Pair) (ts : List (List EntryView)) (co
 abbrev pub HasRoot : Opened → Type 0
 HasRoot node = (entries : List EntryView) × (dirs_of node [] ≡ Some entries)
 
--- what came of a frame that waits for the directory of its next entry: these pairs, leaf trees, and this number of
+-- what a frame has emitted that waits for the directory of its next entry: these pairs, leaf trees, and this number of
 -- unchanged directories
 pub record Waits (f : Frame) (inner : Opened) (ps : List Pair) (ts : List (List EntryView)) (count : ℕ) : Type 0 where
   pub entry : EntryView
@@ -92,15 +92,15 @@ pub record Waits (f : Frame) (inner : Opened) (ps : List Pair) (ts : List (List 
 -- a step, from this frame to this one, with these pairs and leaf trees
 abbrev pub HasStepped : Step → Frame → Frame → List Pair → List (List EntryView) → Type 0
 HasStepped step.Visited old new qs us = (ps : List Pair) (ts : List (List EntryView)) (count : ℕ)
-    → HasCome old ps ts count → HasCome new (ps ++ qs) (ts ++ us) count
+    → HasEmitted old ps ts count → HasEmitted new (ps ++ qs) (ts ++ us) count
 HasStepped (step.Begins inner) old new qs us = (ps : List Pair) (ts : List (List EntryView)) (count : ℕ)
-    → HasCome old ps ts count → Waits new inner.now (ps ++ qs) (ts ++ us) count
+    → HasEmitted old ps ts count → Waits new inner.now (ps ++ qs) (ts ++ us) count
 HasStepped step.Ends old new qs us = (ps : List Pair) (ts : List (List EntryView)) (count : ℕ)
-    → HasCome old ps ts count → HasCome new (ps ++ qs) (ts ++ us) count × (remaining_entries new ≡ [])
+    → HasEmitted old ps ts count → HasEmitted new (ps ++ qs) (ts ++ us) count × (remaining_entries new ≡ [])
 
 -- the frame emits these pairs next
 abbrev pub EmitsNext : Frame → List Pair → Type 0
-EmitsNext f qs = (ps : List Pair) (ts : List (List EntryView)) (count : ℕ) → HasCome f ps ts count
+EmitsNext f qs = (ps : List Pair) (ts : List (List EntryView)) (count : ℕ) → HasEmitted f ps ts count
     → (written_tree : List EntryView) × (n : ℕ) × EmitsBelow (dirs_of f.node.now) (bases_of f.node.now)
     (ps ++ qs) written_tree n
 
@@ -142,13 +142,13 @@ EmitsWritten base e written_tree more kept count = (inside based : Dirs) (inner 
 -- the frame goes on after the directory that it waited for, whose written tree emitted these pairs
 abbrev pub HasResumed : Frame → Frame → Frame → List Pair → ℕ → Type 0
 HasResumed old done new more k = (ps qs : List Pair) (ts us : List (List EntryView)) (count n : ℕ)
-    → Waits old done.node.now ps ts count → HasCome done qs us n
-    → HasCome new (ps ++ (qs ++ more)) (ts ++ us) (count + (n + k))
+    → Waits old done.node.now ps ts count → HasEmitted done qs us n
+    → HasEmitted new (ps ++ (qs ++ more)) (ts ++ us) (count + (n + k))
 
 -- after the directory that the frame waited for, a write that stops has emitted these pairs of its written tree
 abbrev pub EmitsAfter : Frame → Frame → List Pair → Type 0
 EmitsAfter old done more = (ps qs : List Pair) (ts us : List (List EntryView)) (count n : ℕ)
-    → Waits old done.node.now ps ts count → HasCome done qs us n
+    → Waits old done.node.now ps ts count → HasEmitted done qs us n
     → (written_tree : List EntryView) × (saved : ℕ)
     × EmitsBelow (dirs_of old.node.now) (bases_of old.node.now) (ps ++ (qs ++ more)) written_tree saved
 

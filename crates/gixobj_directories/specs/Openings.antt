@@ -39,8 +39,8 @@ abbrev pub OfTrees : Objects → (Trees → Type 0) → Type 0
 OfTrees objects P = (trees : Trees) → AreTreesOf objects trees → P trees
 
 -- the id names a tree that isn't well-formed
-abbrev pub NamesMalformed : Objects → ObjectId → Type 0
-NamesMalformed objects id = (entries : List EntryView)
+abbrev pub NamesIllFormedTree : Objects → ObjectId → Type 0
+NamesIllFormedTree objects id = (entries : List EntryView)
     × NamesSuch objects id Tree (λ hash bytes. DecodesToTree hash bytes entries) × (¬ IsWellFormed entries)
 
 -- the error of an opening for a failed lookup: any allocation failure is out of memory, and any other error the cause
@@ -56,7 +56,7 @@ open_error_of (object.ObjectKind id actual expected) = opening.FindExistingObjec
 abbrev pub IsDirectoryError : Objects → (ObjectId → Bool) → ObjectId → Error → Type 0
 IsDirectoryError objects may_fail id (opening.FindExistingObject cause) =
     IsExistingTreeError objects may_fail id cause × (open_error_of cause ≡ opening.FindExistingObject cause)
-IsDirectoryError objects may_fail id opening.MalformedTree = NamesMalformed objects id
+IsDirectoryError objects may_fail id opening.MalformedTree = NamesIllFormedTree objects id
 IsDirectoryError objects may_fail id opening.OutOfMemory = ⊤
 
 -- the error of an opening that stopped: that of the id that was looked up, or an allocation failure if there is none

@@ -1,6 +1,6 @@
 //! Frames: the directories that a write has begun, each with what remains of it.
 ghost use Rattle.std.specs.Prelude.{◌≡◌, ◌+◌, [], IfOk};
-ghost use Rattle.gixobj_directories.specs.Frames.{HasCome, HasRoot, frame_weight, held_entries, weight_of};
+ghost use Rattle.gixobj_directories.specs.Frames.{HasEmitted, HasRoot, frame_weight, held_entries, weight_of};
 
 use gixobj_files::open_entries::Entries;
 use gixobj_files::written_tree::WrittenTree;
@@ -63,7 +63,7 @@ fn held_tree(alloc: Global, entries: &Entries) -> Result<HeldTree<'_>, AllocErro
 pub(crate) fn begin(alloc: Global, node: &Open) -> Result<Frame<'_>, AllocError>
     ensures root { HasRoot node.now }
     ensures node { IfOk result (λ frame. frame.node.now ≡ node.now) }
-    ensures come { IfOk result (λ frame. HasCome frame [] [] 0) }
+    ensures come { IfOk result (λ frame. HasEmitted frame [] [] 0) }
     ensures weight { IfOk result (λ frame. frame_weight frame + 1 ≡ weight_of node.now) }
 {
     let base = base_of(node);

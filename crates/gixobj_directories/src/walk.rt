@@ -9,7 +9,7 @@ ghost use Rattle.gixobj_files.specs.Edits.{raised};
 ghost use Rattle.gixobj_files.specs.Emission.{EmitsBelow};
 ghost use Rattle.gixobj_files.specs.WrittenTrees.{SharesBase, so_far};
 ghost use Rattle.gixobj_directories.specs.Calls.{IsCallableOnTrees, IsStorable, answered, denied};
-ghost use Rattle.gixobj_directories.specs.Frames.{EmitsAfter, EmitsNext, EmitsWritten, HasCome, HasResumed, HasStepped, IsInStep, IsVisited, Waits, begun_weight, frame_weight, visited_leaf_trees, remaining_entries};
+ghost use Rattle.gixobj_directories.specs.Frames.{EmitsAfter, EmitsNext, EmitsWritten, HasEmitted, HasResumed, HasStepped, IsInStep, IsVisited, Waits, begun_weight, frame_weight, visited_leaf_trees, remaining_entries};
 ghost use Rattle.gixobj_directories.specs.TakenTrees.{Adds};
 ghost use Rattle.gixobj_open.specs.LeafTrees.{inside_of, leaf_trees};
 ghost use Rattle.gixobj_open.specs.Nested.{base_side, bases_of, dirs_of, entries_side};
@@ -192,7 +192,7 @@ fn resume<E, F: FnMut(&Tree) -> Result<ObjectId, E>>(
     requires waits { (ps : List Pair) × (ts : List (List EntryView)) × (count : ℕ)
         × Waits parent.old done.node.now ps ts count }
     requires come { (ps : List Pair) × (ts : List (List EntryView)) × (count : ℕ)
-        × HasCome done ps ts count }
+        × HasEmitted done ps ts count }
     requires ended { remaining_entries done ≡ [] }
     ensures emitted { OnOk result ((more : List Pair) × (count : ℕ)
         × Adds pairs.old.items pairs.new.items [] more × (saved.new ≡ raised saved.old count)

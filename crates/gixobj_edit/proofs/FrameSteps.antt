@@ -4,7 +4,7 @@ use Rattle.std.proofs.lemmas.Bool.{eqb-true}
 use Rattle.std.proofs.lemmas.List.{length-drop, length-take-le}
 use Rattle.std.specs.FinMap as map
 use Rattle.std.specs.Prelude.{Err, None, Ok, Option, Result, Some}
-use Rattle.gixobj_edit.specs.Frames.{AreFrames, AreNoFrames, BeginsWithFrame, FrameComes, objects_of, with_contents}
+use Rattle.gixobj_edit.specs.Frames.{AreFrames, AreNoFrames, BeginsWithFrame, NextFrame, objects_of, with_contents}
 use Rattle.gixobj_fields.proofs.Runs.{begins_with_pieces_snoc, yields_of_begins_with_pieces}
 use Rattle.gixobj_fields.specs.Runs.{HasNoPiece, BeginsWithPieces, Yields, broken, complete, yields_end, yields_error}
 use Rattle.gixobj_hash.proofs.Headers.{parts_of_loose_header}
@@ -45,11 +45,11 @@ pair_of None = (0, 0)
 
 module _ (input : List ℕ) (result : Option (ℕ × ℕ))
     (accepts : (size used : ℕ) → HasLooseHeaderOfLength input kind.Tree size used → result ≡ Some (size, used)) where
-  pub no_frame_of_none : result ≡ None → HasNoPiece FrameComes tt input
+  pub no_frame_of_none : result ≡ None → HasNoPiece NextFrame tt input
   no_frame_of_none none = λ content following rest is. absurd (cc (none, accepts (length content) is.used is.header))
 
   pub no_frame_of_short : (size used : ℕ) → result ≡ Some (size, used)
-      → length (take (length input - used) (drop used input)) < size → HasNoPiece FrameComes tt input
+      → length (take (length input - used) (drop used input)) < size → HasNoPiece NextFrame tt input
   no_frame_of_short size used some short = λ content following rest is.
       let len = length-drop used input in
       let tail = length-take-le (length input - used) (drop used input) (omega (arith, len)) in
@@ -84,16 +84,16 @@ objects_snoc hash contents content old new id inserted same is =
     ∙ ap (λ (objects : Objects). map.insert objects (id_of hash kind.Tree content) (stored_tree hash content)) is
     ∙ sym (with_contents_snoc hash contents content map.empty)
 
-module _ (bytes rest : List ℕ) (contents : List (List ℕ)) (begins_with : BeginsWithPieces FrameComes tt bytes contents tt rest) where
-  pub frames_snoc : (content after : List ℕ) → BeginsWithFrame rest content after → BeginsWithPieces FrameComes tt bytes (contents ++ content ∷ []) tt after
-  frames_snoc content after is = begins_with_pieces_snoc FrameComes tt tt tt bytes rest after contents content begins_with is
+module _ (bytes rest : List ℕ) (contents : List (List ℕ)) (begins_with : BeginsWithPieces NextFrame tt bytes contents tt rest) where
+  pub frames_snoc : (content after : List ℕ) → BeginsWithFrame rest content after → BeginsWithPieces NextFrame tt bytes (contents ++ content ∷ []) tt after
+  frames_snoc content after is = begins_with_pieces_snoc NextFrame tt tt tt bytes rest after contents content begins_with is
 
   pub frames_end : rest ≡ [] → AreFrames bytes contents
   frames_end none =
-      let yields : Yields FrameComes tt rest [] complete = rw none (yields_end tt) in
-      yields_of_begins_with_pieces FrameComes tt tt bytes rest contents complete begins_with yields
+      let yields : Yields NextFrame tt rest [] complete = rw none (yields_end tt) in
+      yields_of_begins_with_pieces NextFrame tt tt bytes rest contents complete begins_with yields
 
-  pub frames_broken : rest ≢ [] → HasNoPiece FrameComes tt rest → AreNoFrames bytes
+  pub frames_broken : rest ≢ [] → HasNoPiece NextFrame tt rest → AreNoFrames bytes
   frames_broken some none =
-      let yields : Yields FrameComes tt rest [] broken = yields_error tt rest some none in
-      (contents, yields_of_begins_with_pieces FrameComes tt tt bytes rest contents broken begins_with yields)
+      let yields : Yields NextFrame tt rest [] broken = yields_error tt rest some none in
+      (contents, yields_of_begins_with_pieces NextFrame tt tt bytes rest contents broken begins_with yields)

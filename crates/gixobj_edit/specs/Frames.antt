@@ -23,16 +23,16 @@ pub record BeginsWithFrame (input content rest : List ℕ) : Type 0 where
   pub joined : drop used input ≡ content ++ rest
 
 -- a frame comes next; a run of frames has no states
-abbrev pub FrameComes : Unit {0} → List ℕ → List ℕ → Unit {0} → List ℕ → Type 0
-FrameComes before input content following rest = BeginsWithFrame input content rest
+abbrev pub NextFrame : Unit {0} → List ℕ → List ℕ → Unit {0} → List ℕ → Type 0
+NextFrame before input content following rest = BeginsWithFrame input content rest
 
 -- the bytes are the frames of these trees
 abbrev pub AreFrames : List ℕ → List (List ℕ) → Type 0
-AreFrames bytes contents = Yields FrameComes tt bytes contents complete
+AreFrames bytes contents = Yields NextFrame tt bytes contents complete
 
 -- the bytes are no frames: after some frames come other bytes
 abbrev pub AreNoFrames : List ℕ → Type 0
-AreNoFrames bytes = (contents : List (List ℕ)) × Yields FrameComes tt bytes contents broken
+AreNoFrames bytes = (contents : List (List ℕ)) × Yields NextFrame tt bytes contents broken
 
 -- the objects after these trees are inserted, each under its id
 abbrev pub with_contents : hash.Kind → List (List ℕ) → Objects → Objects
@@ -53,7 +53,7 @@ HoldsFrames hash bytes store = (contents : List (List ℕ)) × AreFrames bytes c
 -- after some frames comes another one
 abbrev pub HasFrame : List ℕ → Type 0
 HasFrame bytes = (contents : List (List ℕ)) × (content rest after : List ℕ)
-    × BeginsWithPieces FrameComes tt bytes contents tt rest × BeginsWithFrame rest content after
+    × BeginsWithPieces NextFrame tt bytes contents tt rest × BeginsWithFrame rest content after
 
 -- Malformed: the bytes are no frames; OutOfMemory: there is a frame, whose tree is stored
 abbrev pub IsFramesError : List ℕ → Failure → Type 0

@@ -1,6 +1,6 @@
 -- The root that is edited.
 use Rattle.std.specs.Prelude.{◌≡◌, ◌≢◌, ◌⊎◌, ℕ, List, [], false, length}
-use Rattle.gixobj_directories.specs.Openings.{NamesMalformed, NamesTree}
+use Rattle.gixobj_directories.specs.Openings.{NamesIllFormedTree, NamesTree}
 use Rattle.gixobj_edit.specs.Failures.{lookup_failure}
 use Rattle.gixobj_edit.specs.declared.failure.Failure.{Failure}
 use Rattle.gixobj_edit.specs.declared.failure.Failure.TheVariants as failure
@@ -30,7 +30,7 @@ IsRootOf objects hash root entries = (id : ObjectId) × IsIdOf hash root id × I
 abbrev pub IsTreeFailure : Objects → ObjectId → Failure → Type 0
 IsTreeFailure objects id it =
     ((cause : existing.Error) × IsExistingTreeError objects (λ id. false) id cause × (it ≡ lookup_failure cause))
-    ⊎ (((it ≡ failure.MalformedTree) × NamesMalformed objects id) ⊎ (it ≡ failure.OutOfMemory))
+    ⊎ (((it ≡ failure.MalformedTree) × NamesIllFormedTree objects id) ⊎ (it ≡ failure.OutOfMemory))
 
 -- why there is no tree of this id
 abbrev pub IsTreeError : Objects → ObjectId → Failure → Type 0

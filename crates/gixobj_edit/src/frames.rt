@@ -1,7 +1,7 @@
 //! Trees as loose objects without compression, one after another: each is a frame (gitformat-loose).
 ghost use Rattle.std.specs.Prelude.{◌≡◌, ◌++◌, ℕ, IfErr, IfNone, IfOk, IfSome, OnOk, Some};
 ghost use Rattle.std.specs.List.{flat_map};
-ghost use Rattle.gixobj_edit.specs.Frames.{BeginsWithFrame, FrameComes, HoldsFrames, IsFrameError, IsFramesEncodeError, IsFramesError, encode_frame, encode_tree_frame};
+ghost use Rattle.gixobj_edit.specs.Frames.{BeginsWithFrame, NextFrame, HoldsFrames, IsFrameError, IsFramesEncodeError, IsFramesError, encode_frame, encode_tree_frame};
 ghost use Rattle.gixobj_editor.specs.Commands.{emitted_pairs, pairs_of, pairs_of_edit};
 ghost use Rattle.gixobj_fields.specs.Runs.{HasNoPiece};
 ghost use Rattle.gixobj_hash.specs.Decode.{HasLooseHeaderOfLength};
@@ -37,7 +37,7 @@ fn tree_header(alloc: Global, input: &[u8]) -> Option<(u64, usize)>
 /// Returns the content of the frame at the beginning of the input, and the rest, or `None` if there is no frame.
 fn split_frame(alloc: Global, input: &[u8]) -> Option<(&[u8], &[u8])>
     ensures found { IfSome result (λ it. BeginsWithFrame input.now it.0.now it.1.now) }
-    ensures none { IfNone result (HasNoPiece FrameComes tt input.now) }
+    ensures none { IfNone result (HasNoPiece NextFrame tt input.now) }
 {
     let Some((size, used)) = tree_header(alloc, input) else {
         return None;

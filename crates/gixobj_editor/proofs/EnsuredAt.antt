@@ -11,10 +11,10 @@ use Rattle.gixobj_directories.specs.declared.opening.Error as directory
 use Rattle.gixobj_directories.specs.declared.opening.Error.TheVariants as opening
 use Rattle.gixobj_files.specs.Edits.{IsNoTree, Opens, ensured_dirs, counted, raised}
 use Rattle.gixobj_files.specs.Files.{Ensured, Path, SameFiles, Trees}
-use Rattle.gixobj_files.specs.OpeningStops.{StopsOpening, IsUnopenedOnPath, IsUnopenedAbove}
+use Rattle.gixobj_files.specs.OpeningStops.{StopsOpening, IsEnteredOnPath, IsUnopenedAbove}
 use Rattle.gixobj_files.specs.Opening.{Dirs, IsOpened, OpenFiles}
 use Rattle.gixobj_files.specs.State.{State, open_dirs}
-use Rattle.gixobj_files.specs.Unopened.{in_directory}
+use Rattle.gixobj_files.specs.Unopened.{with_empty_name}
 use Rattle.gixobj_files.proofs.BelowPrefix.{open_of_longer_open}
 use Rattle.gixobj_files.proofs.CursorFiles.{ensured_dirs_files}
 use Rattle.gixobj_files.proofs.StoppedOpenings.{halted_at, halted_unopened}
@@ -109,7 +109,7 @@ module _ {S : Type 0} (store : S) (hash : Kind) (prefix : Path) (trees : Trees) 
         rest = refl;
         is_opened = map_is_opened ds' (is_opened_after_ensured path (null_id hash) mid ds' (recursion_from_All IsEntryName path names)
             (is_opened_of_opens trees path (dirs_of ds) (dirs_of mid) queries opens was.opened) ensured);
-        known = tree_known_above no_tree_is_idle trees (in_directory path) path [] refl (map_dirs ds) (dirs_of mid) queries opened;
+        known = tree_known_above no_tree_is_idle trees (with_empty_name path) path [] refl (map_dirs ds) (dirs_of mid) queries opened;
         files = λ T k agrees. subst (λ (d : Dirs). SameFiles (OpenFiles T k d) (Ensured path (OpenFiles T k (map_dirs ds)))) (sym new_is)
             (ensured_dirs_files T trees agrees path (null_id hash) (map_dirs ds) (dirs_of mid) queries opened k);
         has_bases = λ T agrees has. ensured_based T trees hash (map_dirs ds) (map_bases ds) (map_dirs ds') (map_bases ds')
@@ -138,10 +138,10 @@ module _ {S : Type 0} (store : S) (hash : Kind) (prefix : Path) (trees : Trees) 
       (subst (λ (d : Dirs). IsCursorError objects may_fail trees d path (edit_error cause)) (sym (map_dirs_eq ds)) (by_cause cause failed_lookup halts at))
     where
       above : (v : Option ObjectId) → StopsOpening IsNoTree trees path (dirs_of ds) (dirs_of ds') queries v → (it : ObjectId) → v ≡ Some it
-          → IsUnopenedAbove trees (dirs_of ds) (in_directory path) it
+          → IsUnopenedAbove trees (dirs_of ds) (with_empty_name path) it
       above v h it some = (halted_at trees path [] [] (dirs_of ds) (dirs_of ds') queries v h it some).0
 
-      unopened_at : IsUnopenedOnPath IsNoTree trees (dirs_of ds) (in_directory path) → dirs_of ds path ≡ None
+      unopened_at : IsEnteredOnPath IsNoTree trees (dirs_of ds) (with_empty_name path) → dirs_of ds path ≡ None
       unopened_at h = let begins = prefix_extends path [] h.parent h.above.2 h.above.3 h.above.5 in dirs_none_below_unopened path
           (dirs_of ds) all h.parent begins.0 begins.1 h.not_open
 

@@ -11,13 +11,13 @@ use Rattle.gixobj_directories.specs.declared.opening.Error as directory
 use Rattle.gixobj_directories.specs.declared.opening.Error.TheVariants as opening
 use Rattle.gixobj_files.specs.Edits.{Opens, arrived, counted, down, found, stops}
 use Rattle.gixobj_files.specs.Files.{Path, Trees}
-use Rattle.gixobj_files.specs.OpeningStops.{ReachesDirectory, StopsOpening, at_once, without_answer}
+use Rattle.gixobj_files.specs.OpeningStops.{ReachesDirectory, StopsOpening, before_lookup, at_lookup}
 use Rattle.gixobj_files.specs.OpeningStops as halting
 use Rattle.gixobj_files.specs.Opening.{Dirs}
 use Rattle.gixobj_files.proofs.ReachedDirectories.{comes_open, open_comes, opens_of_longer_path}
 use Rattle.gixobj_files.proofs.StoppedOpenings.{halted_at, halted_unopened}
 use Rattle.gixobj_files.proofs.UnopenedCounts.{IsIdle}
-use Rattle.gixobj_editor.specs.Upserts.{SplitsAtFirstInvalid, IsEntryNameError, IsFirstNameError, StartsInvalid, directory_of}
+use Rattle.gixobj_editor.specs.Upserts.{SplitsForRemoval, IsEntryNameError, IsFirstNameError, StartsInvalid, directory_of}
 use Rattle.gixobj_editor.specs.FailedEdits.{OpensInPart, edit_error}
 use Rattle.gixobj_editor.specs.Removals.{ValidatesUpTo, IsRemovalErrorUpTo}
 use Rattle.gixobj_editor.specs.declared.editor.error.Error.{Error}
@@ -49,7 +49,7 @@ directory_of_append (first ∷ []) name back = refl
 directory_of_append (first ∷ second ∷ prefix) name back = ap (λ p. first ∷ p) (directory_of_append (second ∷ prefix) name back)
 
 -- a split path is empty, or has a name after those that are opened
-splits_at_first_invalid_cases : (path names rejected : Path) → SplitsAtFirstInvalid path names rejected → ((path ≡ []) × (names ≡ []))
+splits_at_first_invalid_cases : (path names rejected : Path) → SplitsForRemoval path names rejected → ((path ≡ []) × (names ≡ []))
     ⊎ ((last : List ℕ) × (following : Path) × (path ≡ names ++ last ∷ following) × AreNames names)
 splits_at_first_invalid_cases path names [] splits = elim (path_nil_or_snoc path) [
   | inl none ↦ inl (none, splits.1 ∙ ap directory_of none)
@@ -68,13 +68,13 @@ splits_at_first_invalid_cases path names (name ∷ rest) splits = inr (name, res
 pub no_halt : {StopsBefore : EntryView → Type 0} (trees : Trees) (path : Path) → path ≡ []
     → (old new : Dirs) (requested : List ObjectId) (failed_lookup : Option ObjectId)
     → StopsOpening StopsBefore trees path old new requested failed_lookup → ⊥
-no_halt trees path is old new requested failed_lookup (at_once name rest d e entry tree free none) = cc is
-no_halt trees path is old new requested failed_lookup (without_answer name rest d e entry tree free none filled) = cc is
+no_halt trees path is old new requested failed_lookup (before_lookup name rest d e entry tree free none) = cc is
+no_halt trees path is old new requested failed_lookup (at_lookup name rest d e entry tree free none filled) = cc is
 no_halt trees path is old new requested failed_lookup (halting.down name rest d inner e entries more v has named there halts) = cc is
 no_halt trees path is old new requested failed_lookup (halting.found name rest d inner e entries first more v entry tree free none finds halts) = cc is
 
 -- if the first name is invalid, no directory is opened
-pub nothing_validated : (path names rejected : Path) → SplitsAtFirstInvalid path names rejected → StartsInvalid path → names ≡ []
+pub nothing_validated : (path names rejected : Path) → SplitsForRemoval path names rejected → StartsInvalid path → names ≡ []
 nothing_validated [] names [] splits bad = splits.1
 nothing_validated (name ∷ path) names [] splits bad = absurd (bad (All-head IsEntryName name path splits.0))
 nothing_validated path [] (name ∷ rest) splits bad = refl
@@ -113,7 +113,7 @@ module _ {StopsBefore : EntryView → Type 0} (idle : IsIdle StopsBefore) (objec
       subst (λ p. IsRemovalErrorUpTo StopsBefore objects may_fail trees old p (error.FindExistingObject why)) (sym is)
       (it, h.0, are_names_prefix h.0.parent h.1 (subst AreNames h.2 good), at)
 
-  pub halted_removal : (path names rejected : Path) → SplitsAtFirstInvalid path names rejected
+  pub halted_removal : (path names rejected : Path) → SplitsForRemoval path names rejected
       → (old new : Dirs) (requested : List ObjectId) (failed_lookup : Option ObjectId)
       → StopsOpening StopsBefore trees names old new requested failed_lookup → (cause : directory.Error) → IsOpenErrorAt objects may_fail failed_lookup cause
       → (n m : ℕ) → m ≡ counted n requested → IsRejectedSo StopsBefore objects may_fail trees path old new n m (edit_error cause)
@@ -139,7 +139,7 @@ module _ {StopsBefore : EntryView → Type 0} (idle : IsIdle StopsBefore) (objec
   first_failed path names name rest good is old new requested opens entries there error.MalformedTree h = absurd h
   first_failed path names name rest good is old new requested opens entries there error.OutOfMemory h = absurd h
 
-  pub name_rejected_so : (path names rejected : Path) → SplitsAtFirstInvalid path names rejected → (old new : Dirs) (requested : List ObjectId)
+  pub name_rejected_so : (path names rejected : Path) → SplitsForRemoval path names rejected → (old new : Dirs) (requested : List ObjectId)
       → Opens StopsBefore trees names old new requested → (entries : List EntryView) → new names ≡ Some entries → (failure : Error)
       → IsFirstNameError rejected failure
       → (n m : ℕ) → m ≡ counted n requested → IsRejectedSo StopsBefore objects may_fail trees path old new n m failure
@@ -157,7 +157,7 @@ IsOpenedFor StopsBefore trees path old new requested = Opens StopsBefore trees (
     × ((name : List ℕ) → ValidatesUpTo StopsBefore trees old path name → IsEntryName name)
 
 pub is_opened_for_of_opens : {StopsBefore : EntryView → Type 0} → IsIdle StopsBefore → (trees : Trees) (path names rejected : Path)
-    → SplitsAtFirstInvalid path names rejected
+    → SplitsForRemoval path names rejected
     → (old new : Dirs)
     → old [] ≢ None → (requested : List ObjectId) → Opens StopsBefore trees names old new requested → (new names ≡ None) ⊎ AreNames rejected
     → IsOpenedFor StopsBefore trees path old new requested

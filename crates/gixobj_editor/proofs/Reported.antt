@@ -21,7 +21,7 @@ use Rattle.gixobj_files.specs.History.{FilesAfter, Step}
 use Rattle.gixobj_files.specs.Opening.{OpenFiles}
 use Rattle.gixobj_files.specs.PlainHistory.{HasNoTree, NoFiles}
 use Rattle.gixobj_files.specs.State.{DirMap, EditorFiles, State, root_alone}
-use Rattle.gixobj_files.specs.Tables.{AgreesWithPairs, HasOneId}
+use Rattle.gixobj_files.specs.Tables.{AgreesWithPairs, HasOneIdPerTree}
 use Rattle.gixobj_hash.specs.declared.hash.object_id.ObjectId.{ObjectId}
 use Rattle.gixobj_tree.specs.Entries.{EntryView, Pair}
 use Rattle.gixobj_mode.specs.Mode.{is_tree_mode, mode_of_kind}
@@ -49,7 +49,7 @@ module _ (T : Table) (pairs : List Pair) (known : AgreesWithPairs T pairs) where
       (sym (All-contains (λ pair. T.tree_at pair.0 ≡ Some pair.1) pairs (id, tree) known has)) (same_files_refl (Files T n tree))
 
   -- the ids of trees that are built up from pairs are equal if and only if the files are
-  pub known_by_trees : HasOneId pairs → AllByRecursion (HasBuilt pairs) pairs → (x y : ObjectId) (xs ys : List EntryView) → Contains pairs (x, xs)
+  pub known_by_trees : HasOneIdPerTree pairs → AllByRecursion (HasBuilt pairs) pairs → (x y : ObjectId) (xs ys : List EntryView) → Contains pairs (x, xs)
       → Contains pairs (y, ys)
       → (A B : FileSet) → ((n : ℕ) → IsUpTo n (NamedFiles T n x) A) → ((n : ℕ) → IsUpTo n (NamedFiles T n y) B) → (x ≡ y) ↔ SameFiles A B
   known_by_trees one all x y xs ys has other A B names_x names_y = (

@@ -15,7 +15,7 @@ use Rattle.gixobj_files.specs.Emission.{Emits}
 use Rattle.gixobj_files.specs.Opening.{Dirs, IsOpened, in_path}
 use Rattle.gixobj_files.specs.State.{EditorFiles, FilesBelow, State, open_bases, open_dirs}
 use Rattle.gixobj_files.specs.Tables.{AgreesWithPairs, AgreesWithStore}
-use Rattle.gixobj_files.specs.Unopened.{in_directory, unopened_count}
+use Rattle.gixobj_files.specs.Unopened.{with_empty_name, unopened_count}
 use Rattle.gixobj_hash.specs.Hash.{null_id}
 use Rattle.gixobj_hash.specs.declared.hash.object_id.ObjectId.{ObjectId}
 use Rattle.gixobj_tree.specs.Entries.{EntryView, Pair}
@@ -42,9 +42,9 @@ IsCursorError objects may_fail trees dirs path error.EmptyPathComponent = IsFirs
 IsCursorError objects may_fail trees dirs path error.SlashInPathComponent =
     IsFirstNameError path error.SlashInPathComponent
 IsCursorError objects may_fail trees dirs path (error.FindExistingObject cause) = AreNames path
-    × IsUnopenedError objects may_fail trees dirs (in_directory path) (opening.FindExistingObject cause)
+    × IsUnopenedError objects may_fail trees dirs (with_empty_name path) (opening.FindExistingObject cause)
 IsCursorError objects may_fail trees dirs path error.MalformedTree = AreNames path
-    × IsUnopenedError objects may_fail trees dirs (in_directory path) opening.MalformedTree
+    × IsUnopenedError objects may_fail trees dirs (with_empty_name path) opening.MalformedTree
 IsCursorError objects may_fail trees dirs path (error.CannotRemoveNonLeaf at) = ⊥
 IsCursorError objects may_fail trees dirs path error.OutOfMemory = AreNames path × (path ≢ [])
 
@@ -52,7 +52,7 @@ IsCursorError objects may_fail trees dirs path error.OutOfMemory = AreNames path
 -- unchanged after an invalid name
 abbrev pub IsFailedCursorIn : {S : Type 0} → StoreModel S → State S → Path → State S → Error → Type 0
 IsFailedCursorIn model old path new failure =
-    IsFailedEditIn model old (in_directory path) new failure × (IsNameError failure → new ≡ old)
+    IsFailedEditIn model old (with_empty_name path) new failure × (IsNameError failure → new ≡ old)
 
 -- the errors of an edit by a cursor: those of the editor; and out of memory for the path from the root, if the path has
 -- names
@@ -77,11 +77,11 @@ pub record IsEnsured {S : Type 0} (trees : Trees) (old : State S) (path : Path) 
   pub dirs : (at : Path) → open_dirs new at ≡ ensured_dirs path (null_id old.object_hash) opened at
   pub bases : (at : Path) → open_bases new at ≡ edited_bases opened (open_dirs new)
       (opened_bases (open_dirs old) opened (open_bases old)) at
-  pub lookups : new.lookups ≡ raised old.lookups (unopened_count trees (open_dirs old) (in_directory path))
+  pub lookups : new.lookups ≡ raised old.lookups (unopened_count trees (open_dirs old) (with_empty_name path))
   pub rest : new ≡ record old { dirs = new.dirs; bases = new.bases; lookups = new.lookups; prefix = path }
   pub is_opened : IsOpened (open_dirs new)
   -- the store has each unopened directory at or above the path
-  pub known : (it : ObjectId) → IsUnopenedAbove trees (open_dirs old) (in_directory path) it
+  pub known : (it : ObjectId) → IsUnopenedAbove trees (open_dirs old) (with_empty_name path) it
       → (entries : List EntryView) × (trees it ≡ Some entries)
   pub files : (T : Table) (n : ℕ) → AgreesWithStore T trees
       → SameFiles (EditorFiles T n new) (Ensured path (EditorFiles T n old))

@@ -9,7 +9,7 @@ use Rattle.gixobj_directories.specs.declared.write.Written.{Written}
 use Rattle.gixobj_files.specs.Files.{FileSet, SameFiles, Table}
 use Rattle.gixobj_files.specs.PlainHistory.{NoFiles, PlainFilesAfter}
 use Rattle.gixobj_files.specs.State.{State, root_alone}
-use Rattle.gixobj_files.specs.Tables.{HasOneId}
+use Rattle.gixobj_files.specs.Tables.{HasOneIdPerTree}
 use Rattle.gixobj_mode.specs.declared.entry_kind.EntryKind.TheVariants.{Tree}
 use Rattle.gixobj_editor.specs.Commands.{accepted_steps, emitted_pairs, written_at}
 use Rattle.gixobj_editor.specs.RunTables.{AgreesWithRun}
@@ -34,7 +34,7 @@ pub record IsPlainRun {S E : Type 0} (T : Table) (objects : Objects) (editor : S
   pub dirs : editor.dirs ≡ root_alone []
   pub bases : editor.bases ≡ root_alone []
   pub no_tree : All NamesNoTree commands
-  pub one_id : HasOneId (emitted_pairs replies)
+  pub one_id : HasOneIdPerTree (emitted_pairs replies)
 
 -- the files that the accepted commands before command number k make of none, if no tree is inserted
 abbrev pub files_before : {E : Type 0} → ℕ → List Command → List (Reply E) → FileSet

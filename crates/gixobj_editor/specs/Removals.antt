@@ -9,7 +9,7 @@ use Rattle.gixobj_directories.specs.declared.opening.Error.TheVariants as openin
 use Rattle.gixobj_files.specs.Bases.{HasBases, edited_bases, opened_bases}
 use Rattle.gixobj_files.specs.Edits.{IsNoTree, IsNotLookedUp, Opens, removed_dirs, raised}
 use Rattle.gixobj_files.specs.Files.{Path, Removed, SameFiles, Table, Trees}
-use Rattle.gixobj_files.specs.OpeningStops.{ReachesDirectory, IsUnopenedOnPath, IsUnopenedAbove}
+use Rattle.gixobj_files.specs.OpeningStops.{ReachesDirectory, IsEnteredOnPath, IsUnopenedAbove}
 use Rattle.gixobj_files.specs.Opening.{Dirs, IsOpened}
 use Rattle.gixobj_files.specs.State.{EditorFiles, State, open_bases, open_dirs}
 use Rattle.gixobj_files.specs.Tables.{AgreesWithStore}
@@ -52,7 +52,7 @@ IsRemovalErrorUpTo StopsBefore objects may_fail trees dirs path error.MalformedT
     IsOpenErrorOnPath objects may_fail trees dirs path opening.MalformedTree
 IsRemovalErrorUpTo StopsBefore objects may_fail trees dirs path (error.CannotRemoveNonLeaf at) = ⊥
 IsRemovalErrorUpTo StopsBefore objects may_fail trees dirs path error.OutOfMemory =
-    IsUnopenedOnPath StopsBefore trees dirs path
+    IsEnteredOnPath StopsBefore trees dirs path
 
 -- the errors of a removal; its opening ends only before an entry that isn't of tree mode
 abbrev pub IsRemovalError : EditErrors

@@ -23,7 +23,7 @@ use Rattle.gixobj_files.specs.Files.{Files, Path, SameFiles, Table, Trees}
 use Rattle.gixobj_files.specs.Emission.{EmitsSome}
 use Rattle.gixobj_files.specs.Opening.{Dirs, in_path}
 use Rattle.gixobj_files.specs.State.{EditorFiles, State, open_bases, open_dirs, root_alone, with_store}
-use Rattle.gixobj_files.specs.Unopened.{in_directory}
+use Rattle.gixobj_files.specs.Unopened.{with_empty_name}
 use Rattle.gixobj_hash.specs.declared.hash.object_id.ObjectId.{ObjectId}
 use Rattle.gixobj_keep.specs.Keeping.{StopsKeepingAt, with_trees}
 use Rattle.gixobj_tree.specs.Entries.{EntryView, Pair}
@@ -157,7 +157,7 @@ module _ {S E : Type 0} (model : StoreModel S) (answers : Answers E) where
   IsReplyAt prefix old edits (reply.AtRefused error) new =
       ((error ≡ editing.OutOfMemory) × (new ≡ old))
       ⊎ (IsFailedEdit model (λ trees. IsCursorError (model.objects old.store) (model.may_fail old.store) trees
-      (open_dirs old) prefix error) old (in_directory prefix) error new × (IsNameError error → new ≡ old))
+      (open_dirs old) prefix error) old (with_empty_name prefix) error new × (IsNameError error → new ≡ old))
   IsReplyAt prefix old edits its_reply new = ⊥
 
   -- the command may get this reply and turn the old state into the new one

@@ -49,9 +49,9 @@ StartsInvalid (name ∷ path) = ¬ IsEntryName name
 
 -- a path, split into its valid names and those from the first invalid one on; if all are valid, the first part is the
 -- path without its last name
-abbrev pub SplitsAtFirstInvalid : Path → Path → Path → Type 0
-SplitsAtFirstInvalid path names [] = AreNames path × (names ≡ directory_of path)
-SplitsAtFirstInvalid path names (name ∷ rest) = AreNames names × (¬ IsEntryName name) × (path ≡ names ++ name ∷ rest)
+abbrev pub SplitsForRemoval : Path → Path → Path → Type 0
+SplitsForRemoval path names [] = AreNames path × (names ≡ directory_of path)
+SplitsForRemoval path names (name ∷ rest) = AreNames names × (¬ IsEntryName name) × (path ≡ names ++ name ∷ rest)
 
 -- a directory above the path isn't opened, with this cause
 abbrev pub IsUnopenedError : Objects → (ObjectId → Bool) → Trees → Dirs → Path → directory.Error → Type 0

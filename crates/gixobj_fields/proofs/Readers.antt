@@ -3,7 +3,7 @@ use Rattle.std.proofs.Common.{◌≡◌, ◌≢◌, ◌≤◌, ℕ, List, [], �
 use Rattle.std.proofs.lemmas.List.Elements.{All-nil, All-push}
 use Rattle.std.specs.Prelude.{Some, None, Result, Ok, Err}
 use Rattle.gixobj_fields.proofs.Runs.{begins_with_pieces_snoc, yields_of_begins_with_pieces}
-use Rattle.gixobj_fields.specs.Iterators.{FindsFault, FindsFirst, FindsNone, NextPiece, YieldsNone, BeginsWithOtherPieces, ReadsFirst, ReadsNone, ReaderState}
+use Rattle.gixobj_fields.specs.Iterators.{IsOptionalSearchError, FindsFirst, IsRequiredSearchError, NextPiece, YieldsNone, BeginsWithOtherPieces, ReadsFirst, ReadsNone, ReaderState}
 use Rattle.gixobj_fields.specs.Runs.{IsPieceError, Yields, broken, complete, yields_end, yields_error}
 use Rattle.gixobj_hash.specs.declared.decode.Error.{Error}
 use Rattle.gixobj_hash.specs.declared.decode.Error.TheVariants.{Malformed, OutOfMemory}
@@ -81,7 +81,7 @@ module _ {R K S P T : Type 0} (status : R → ReaderState K S) (Has : K → S �
 
   fault_of : (Is : P → Type 0) (reader at : R) (error : Error) → SearchInvariant Is reader at → ((status at).bytes ≢ [])
       × IsPieceError (Has (status reader).kind) (Wants (status reader).kind) (status at).state (status at).bytes error
-      → FindsFault status Has Wants Is reader error
+      → IsOptionalSearchError status Has Wants Is reader error
   fault_of Is reader at Malformed searches rejected =
       let consumed = searches.begins_with in
       let yields : Yields (Has (status reader).kind) (status at).state (status at).bytes [] broken =
@@ -93,13 +93,14 @@ module _ {R K S P T : Type 0} (status : R → ReaderState K S) (Has : K → S �
       )
   fault_of Is reader at OutOfMemory searches rejected = ((status at).state, (status at).bytes, searches.begins_with, rejected.1)
 
-  none_of_fault : (Is : P → Type 0) (reader : R) (error : Error) → FindsFault status Has Wants Is reader error → FindsNone status Has Wants Is reader error
+  none_of_fault : (Is : P → Type 0) (reader : R) (error : Error) → IsOptionalSearchError status Has Wants Is reader error
+      → IsRequiredSearchError status Has Wants Is reader error
   none_of_fault Is reader Malformed fault = (broken, fault)
   none_of_fault Is reader OutOfMemory fault = fault
 
   pub search_faults : (Is : P → Type 0) (reader at after : R) (item : Result T Error) (received error : Error) → received ≡ error → SearchInvariant Is reader at
       → NextPiece status Has Wants view IsSuch at (Some item) after → item ≡ Err error
-      → FindsFault status Has Wants Is reader received
+      → IsOptionalSearchError status Has Wants Is reader received
   search_faults Is reader at after item received error same searches gives err =
       let rejected : NextPiece status Has Wants view IsSuch at (Some (Err error)) after =
       subst (λ (it : Result T Error). NextPiece status Has Wants view IsSuch at (Some it) after) err gives in
@@ -107,7 +108,7 @@ module _ {R K S P T : Type 0} (status : R → ReaderState K S) (Has : K → S �
 
   pub search_errors : (Is : P → Type 0) (reader at after : R) (item : Result T Error) (received error : Error) → received ≡ error → SearchInvariant Is reader at
       → NextPiece status Has Wants view IsSuch at (Some item) after → item ≡ Err error
-      → FindsNone status Has Wants Is reader received
+      → IsRequiredSearchError status Has Wants Is reader received
   search_errors Is reader at after item received error same searches gives err =
       none_of_fault Is reader received (search_faults Is reader at after item received error same searches gives err)
 

@@ -51,23 +51,23 @@ module _ {R K S P : Type 0} (status : R → ReaderState K S) (Has : K → S → 
         × ((status after).kind ≡ (status before).kind)
 
     -- after pieces that do not satisfy `Is` comes one that allocates
-    abbrev pub FailsToAllocate : (P → Type 0) → R → Type 0
-    FailsToAllocate Is reader = (before : S) × (input : List ℕ) × BeginsWithOtherPieces Is reader before input
+    abbrev pub ReachesAllocation : (P → Type 0) → R → Type 0
+    ReachesAllocation Is reader = (before : S) × (input : List ℕ) × BeginsWithOtherPieces Is reader before input
         × Wants (status reader).kind before input
 
     -- the error of a search that needs a piece; Malformed: the run yields none; OutOfMemory: a piece up to it
     -- allocates
-    abbrev pub FindsNone : (P → Type 0) → R → Error → Type 0
-    FindsNone Is reader Malformed = (ending : Ending) × YieldsNone Is reader ending
-    FindsNone Is reader OutOfMemory = FailsToAllocate Is reader
+    abbrev pub IsRequiredSearchError : (P → Type 0) → R → Error → Type 0
+    IsRequiredSearchError Is reader Malformed = (ending : Ending) × YieldsNone Is reader ending
+    IsRequiredSearchError Is reader OutOfMemory = ReachesAllocation Is reader
 
     -- the error of a search that may end without a piece; Malformed: the run is broken; OutOfMemory: a piece
     -- allocates
-    abbrev pub FindsFault : (P → Type 0) → R → Error → Type 0
-    FindsFault Is reader Malformed = YieldsNone Is reader broken
-    FindsFault Is reader OutOfMemory = FailsToAllocate Is reader
+    abbrev pub IsOptionalSearchError : (P → Type 0) → R → Error → Type 0
+    IsOptionalSearchError Is reader Malformed = YieldsNone Is reader broken
+    IsOptionalSearchError Is reader OutOfMemory = ReachesAllocation Is reader
 
     -- a search found no piece that satisfies `Is`, and the iterator is at its end
     abbrev pub ReadsNone : (P → Type 0) → R → R → Type 0
-    ReadsNone Is before after = (error : Error) × FindsNone Is before error × ((status after).bytes ≡ [])
+    ReadsNone Is before after = (error : Error) × IsRequiredSearchError Is before error × ((status after).bytes ≡ [])
         × ((status after).kind ≡ (status before).kind)

@@ -11,7 +11,7 @@ use Rattle.gixobj_tree.specs.WellFormed.{EachLater, IsWellFormed}
 use Rattle.gixobj_mode.specs.Mode.{is_tree_mode, tree_type}
 use Rattle.gixobj_hash.specs.declared.hash.object_id.ObjectId.{ObjectId}
 use Rattle.gixobj_files.specs.Files.{Below, Files, ContainsEntry, Path, SameFiles, Table, is_null}
-use Rattle.gixobj_files.specs.Tables.{AgreesWithPairs, HasOneId}
+use Rattle.gixobj_files.specs.Tables.{AgreesWithPairs, HasOneIdPerTree}
 use Rattle.gixobj_files.proofs.OpenedFiles.{files_below_of_table}
 use Rattle.gixobj_tree.proofs.WellFormed.{comes_before_trans}
 
@@ -148,7 +148,8 @@ module _ (T : Table) (pairs : List Pair) (known : AgreesWithPairs T pairs) where
   abbrev Same : List EntryView → List EntryView → Type 0
   Same xs ys = (n : ℕ) → SameFiles (Files T n xs) (Files T n ys)
 
-  both : (one : HasOneId pairs) (xs ys : List EntryView) → IsClean xs → IsClean ys → Same xs ys → (x y : EntryView) → ContainsEntry xs x → ContainsEntry ys y
+  both : (one : HasOneIdPerTree pairs) (xs ys : List EntryView) → IsClean xs → IsClean ys → Same xs ys → (x y : EntryView)
+      → ContainsEntry xs x → ContainsEntry ys y
       → x.name ≡ y.name
       → (is_tree_mode x.mode ≡ true → x.mode ≡ tree_type) → (is_tree_mode y.mode ≡ true → y.mode ≡ tree_type)
       → (xt : is_tree_mode x.mode ≡ true → List EntryView) → ((t : is_tree_mode x.mode ≡ true) → Contains pairs (x.id, xt t))
@@ -182,7 +183,7 @@ module _ (T : Table) (pairs : List Pair) (known : AgreesWithPairs T pairs) where
       ] refl
 
   -- built trees with the same files are equal
-  pub same_trees : (one : HasOneId pairs) (xs : List EntryView) → IsBuilt pairs xs → (ys : List EntryView) → IsBuilt pairs ys → Same xs ys → xs ≡ ys
+  pub same_trees : (one : HasOneIdPerTree pairs) (xs : List EntryView) → IsBuilt pairs xs → (ys : List EntryView) → IsBuilt pairs ys → Same xs ys → xs ≡ ys
   same_trees one xs (built lx cx mx tx fx nx dx) ys (built ly cy my ty fy ny dy) same =
       let x_built : IsBuilt pairs xs = built xs cx mx tx fx nx dx in
       let y_built : IsBuilt pairs ys = built ys cy my ty fy ny dy in

@@ -13,7 +13,7 @@ use Rattle.gixobj_files.specs.Files.{is_null}
 use Rattle.gixobj_files.specs.Emission.{EmitsBelow, EmitsEntries, left_out_if_empty, end, entry_unless_null, of_entries, unopened, unchanged, written}
 use Rattle.gixobj_files.specs.Opening.{Dirs}
 use Rattle.gixobj_files.specs.WrittenTrees.{with_id}
-use Rattle.gixobj_files.specs.FilteredTrees.{IsFilteredTree, id_among, filtered_out}
+use Rattle.gixobj_files.specs.FilteredTrees.{IsFilteredTree, first_id_if_named, after_first_if_named}
 
 -- no entry has a null id
 abbrev pub AreFilled : List EntryView → Type 0
@@ -45,7 +45,7 @@ with_id_of_with_id : (e x : EntryView) (id : ObjectId) → x ≡ with_id e id �
 with_id_of_with_id e x id is = ap (λ (y : EntryView). with_id e y.id) is ∙ sym is
 
 pub filters_step : (e : EntryView) (rest remaining : List EntryView) → AllByRecursion (λ y. e.name ≢ y.name) rest → AreFilled remaining
-    → IsFilteredTree remaining (e ∷ rest) → FiltersEntry e rest remaining (id_among e.name remaining) (filtered_out e.name remaining)
+    → IsFilteredTree remaining (e ∷ rest) → FiltersEntry e rest remaining (first_id_if_named e.name remaining) (after_first_if_named e.name remaining)
 filters_step e rest [] apart filled (inl h) = record { here = refl; is_filtered = h; filled = tt }
 filters_step e rest [] apart filled (inr h) = absurd (cc h.2)
 filters_step e rest (x ∷ xs) apart filled h =

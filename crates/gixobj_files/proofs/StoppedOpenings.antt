@@ -7,7 +7,7 @@ use Rattle.gixobj_mode.specs.Mode.{is_tree_mode}
 use Rattle.gixobj_hash.specs.declared.hash.object_id.ObjectId.{ObjectId}
 use Rattle.gixobj_files.specs.Edits.{Finds, IsEntryOf, Opens, arrived, down, first_entry_of, found, only_open, stops}
 use Rattle.gixobj_files.specs.Files.{Path, Trees}
-use Rattle.gixobj_files.specs.OpeningStops.{StopsOpening, IsAbove, IsNextUnopened, IsUnopenedOnPath, IsUnopenedAbove, at_once, without_answer}
+use Rattle.gixobj_files.specs.OpeningStops.{StopsOpening, IsAbove, IsNextUnopened, IsEnteredOnPath, IsUnopenedAbove, before_lookup, at_lookup}
 use Rattle.gixobj_files.specs.OpeningStops as halting
 use Rattle.gixobj_files.specs.Opening.{Dirs, in_dir}
 use Rattle.gixobj_files.specs.Unopened.{needs_opening, needs_lookup, needs_tree_lookup, is_unopened, looked_up_entry, unopened_count}
@@ -64,9 +64,9 @@ module _ (trees : Trees) where
       → (prefix back : Path) × (answered tried : List ObjectId) × (path ≡ prefix ++ back) × Opens StopsBefore trees prefix old new answered
       × (looked_up ≡ answered ++ tried) × (tried ≡ failed_ids failed_lookup)
       × ((it : ObjectId) → tried ≡ it ∷ [] → IsNextUnopened trees old prefix back it)
-  halts_opens path old new looked_up failed_lookup (at_once name rest d e entry tree free none) =
+  halts_opens path old new looked_up failed_lookup (before_lookup name rest d e entry tree free none) =
       ([], name ∷ rest, [], [], refl, arrived d, refl, refl, λ it is. absurd (cc is))
-  halts_opens path old new looked_up failed_lookup (without_answer name rest d e entry tree free none filled) = (
+  halts_opens path old new looked_up failed_lookup (at_lookup name rest d e entry tree free none filled) = (
     [],
     name ∷ rest,
     [],
@@ -114,8 +114,8 @@ module _ (trees : Trees) where
   pub halted_count : {StopsBefore : EntryView → Type 0} (path : Path) (last : List ℕ) (after : Path) (old new : Dirs) (looked_up : List ObjectId)
       (failed_lookup : Option ObjectId) → StopsOpening StopsBefore trees path old new looked_up failed_lookup → length looked_up ≤ unopened_count trees old
       (path ++ last ∷ after)
-  halted_count path last after old new looked_up failed_lookup (at_once name rest d e entry tree free none) = omega arith
-  halted_count path last after old new looked_up failed_lookup (without_answer name rest d e entry tree free none filled) =
+  halted_count path last after old new looked_up failed_lookup (before_lookup name rest d e entry tree free none) = omega arith
+  halted_count path last after old new looked_up failed_lookup (at_lookup name rest d e entry tree free none filled) =
       count_vain trees name rest last after d e entry tree (none []) filled
   halted_count path last after old new looked_up failed_lookup (halting.down name rest d inner e entries more v has named is halts) =
       omega (arith, count_open trees name rest last after d entries is, halted_count rest last after (in_dir name d) inner more v halts)
@@ -171,8 +171,8 @@ module _ (trees : Trees) where
       (failed_lookup : Option ObjectId)
       → StopsOpening StopsBefore trees path old new looked_up failed_lookup → (it : ObjectId) → failed_lookup ≡ Some it
       → (h : IsUnopenedAbove trees old (path ++ last ∷ after) it) × (rest : Path) × (path ≡ h.parent ++ rest)
-  halted_at path last after old new looked_up failed_lookup (at_once name rest d e entry tree free none) it is = absurd (cc is)
-  halted_at path last after old new looked_up failed_lookup (without_answer name rest d e entry tree free none filled) it is =
+  halted_at path last after old new looked_up failed_lookup (before_lookup name rest d e entry tree free none) it is = absurd (cc is)
+  halted_at path last after old new looked_up failed_lookup (at_lookup name rest d e entry tree free none filled) it is =
       let remaining = one_more rest last after in (
         record {
           parent = name ∷ [];
@@ -195,7 +195,7 @@ module _ (trees : Trees) where
   not_open_here : {StopsBefore : EntryView → Type 0} (name : List ℕ) (rest : Path) (last : List ℕ) (after : Path) (d : Dirs) (e : EntryView)
       → IsEntryOf name (d []) e
       → is_tree_mode e.mode ≡ true → (StopsBefore e → ⊥) → ((path : Path) → d (name ∷ path) ≡ None)
-      → IsUnopenedOnPath StopsBefore trees d (name ∷ (rest ++ last ∷ after))
+      → IsEnteredOnPath StopsBefore trees d (name ∷ (rest ++ last ∷ after))
   not_open_here name rest last after d e entry tree free none =
       let remaining = one_more rest last after in
       record {
@@ -211,10 +211,10 @@ module _ (trees : Trees) where
   -- an opening stops at a directory that isn't open
   pub halted_unopened : {StopsBefore : EntryView → Type 0} (path : Path) (last : List ℕ) (after : Path) (old new : Dirs) (looked_up : List ObjectId)
       (failed_lookup : Option ObjectId) → StopsOpening StopsBefore trees path old new looked_up failed_lookup
-      → IsUnopenedOnPath StopsBefore trees old (path ++ last ∷ after)
-  halted_unopened path last after old new looked_up failed_lookup (at_once name rest d e entry tree free none) =
+      → IsEnteredOnPath StopsBefore trees old (path ++ last ∷ after)
+  halted_unopened path last after old new looked_up failed_lookup (before_lookup name rest d e entry tree free none) =
       not_open_here name rest last after d e entry tree free none
-  halted_unopened path last after old new looked_up failed_lookup (without_answer name rest d e entry tree free none filled) =
+  halted_unopened path last after old new looked_up failed_lookup (at_lookup name rest d e entry tree free none filled) =
       not_open_here name rest last after d e entry tree free none
   halted_unopened path last after old new looked_up failed_lookup (halting.down name rest d inner e entries more v has named there halts) =
       let h = halted_unopened rest last after (in_dir name d) inner more v halts in

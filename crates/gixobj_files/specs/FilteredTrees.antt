@@ -14,11 +14,11 @@ IsFilteredTree written_tree (e ∷ es) = IsFilteredTree written_tree es
     ⊎ ((id : ObjectId) × (rest : List EntryView) × (written_tree ≡ with_id e id ∷ rest) × IsFilteredTree rest es)
 
 -- the id of the first entry if it has this name, and else the null id
-abbrev pub id_among : List ℕ → List EntryView → ObjectId
-id_among name [] = null_id Sha1
-id_among name (x ∷ xs) = if same_name x.name name then x.id else null_id Sha1
+abbrev pub first_id_if_named : List ℕ → List EntryView → ObjectId
+first_id_if_named name [] = null_id Sha1
+first_id_if_named name (x ∷ xs) = if same_name x.name name then x.id else null_id Sha1
 
 -- the entries after the first if that has this name, and else all of them
-abbrev pub filtered_out : List ℕ → List EntryView → List EntryView
-filtered_out name [] = []
-filtered_out name (x ∷ xs) = if same_name x.name name then xs else x ∷ xs
+abbrev pub after_first_if_named : List ℕ → List EntryView → List EntryView
+after_first_if_named name [] = []
+after_first_if_named name (x ∷ xs) = if same_name x.name name then xs else x ∷ xs

@@ -13,10 +13,10 @@ use Rattle.gixobj_files.specs.Unopened.{is_unopened, looked_up_entry}
 -- that were looked up, and the last of these if its tree wasn't opened
 pub data StopsOpening (StopsBefore : EntryView → Type 0) (trees : Trees) : Path → Dirs → Dirs → List ObjectId
     → Option ObjectId → Type 0 where
-  at_once : (name : List ℕ) (rest : Path) (dirs : Dirs) (e : EntryView) → IsEntryOf name (dirs []) e
+  before_lookup : (name : List ℕ) (rest : Path) (dirs : Dirs) (e : EntryView) → IsEntryOf name (dirs []) e
       → is_tree_mode e.mode ≡ true → (¬ StopsBefore e) → ((path : Path) → dirs (name ∷ path) ≡ None)
       → StopsOpening StopsBefore trees (name ∷ rest) dirs dirs [] None
-  without_answer : (name : List ℕ) (rest : Path) (dirs : Dirs) (e : EntryView) → IsEntryOf name (dirs []) e
+  at_lookup : (name : List ℕ) (rest : Path) (dirs : Dirs) (e : EntryView) → IsEntryOf name (dirs []) e
       → is_tree_mode e.mode ≡ true → (¬ StopsBefore e) → ((path : Path) → dirs (name ∷ path) ≡ None)
       → (¬ IsNeverLookedUp e.id)
       → StopsOpening StopsBefore trees (name ∷ rest) dirs dirs (e.id ∷ []) (Some e.id)
@@ -62,7 +62,7 @@ ReachesDirectory StopsBefore trees dirs parent =
     × (IsNeverLookedUp e.id ⊎ ((entries : List EntryView) × (trees e.id ≡ Some entries))))
 
 -- a parent directory of the path isn't open, and the opening of the path enters it
-pub record IsUnopenedOnPath (StopsBefore : EntryView → Type 0) (trees : Trees) (dirs : Dirs)
+pub record IsEnteredOnPath (StopsBefore : EntryView → Type 0) (trees : Trees) (dirs : Dirs)
     (path : Path) : Type 0 where
   pub parent : Path
   pub entry : EntryView

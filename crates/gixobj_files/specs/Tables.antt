@@ -21,8 +21,9 @@ abbrev pub AgreesWithPairs : Table → List Pair → Type 0
 AgreesWithPairs T pairs = All (λ pair. T.tree_at pair.0 ≡ Some pair.1) pairs
 
 -- no tree of these pairs has two ids
-abbrev pub HasOneId : List Pair → Type 0
-HasOneId pairs = (tree : List EntryView) (x y : ObjectId) → Contains pairs (x, tree) → Contains pairs (y, tree) → x ≡ y
+abbrev pub HasOneIdPerTree : List Pair → Type 0
+HasOneIdPerTree pairs = (tree : List EntryView) (x y : ObjectId) → Contains pairs (x, tree) → Contains pairs (y, tree)
+    → x ≡ y
 
 -- the table of a store has the trees that the store names, and no other; ids that are never looked up are excepted
 abbrev pub IsTableOfStore : Table → Trees → Type 0

@@ -55,8 +55,8 @@ strict_beginnings (name ∷ []) = []
 strict_beginnings (name ∷ next ∷ rest) = (name ∷ []) ∷ map (λ path. name ∷ path) (strict_beginnings (next ∷ rest))
 
 -- a path one name longer: its parent directories are those of the path, and the path itself
-abbrev pub in_directory : Path → Path
-in_directory path = path ++ [] ∷ []
+abbrev pub with_empty_name : Path → Path
+with_empty_name path = path ++ [] ∷ []
 
 -- the entry is of tree mode, and its id is looked up
 abbrev pub needs_tree_lookup : Option EntryView → Bool

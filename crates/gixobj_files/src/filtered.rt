@@ -4,7 +4,7 @@ ghost use Rattle.gixobj_tree.specs.WellFormed.{EachLater, IsWellFormed};
 ghost use Rattle.gixobj_files.specs.Editing.{non_null_entries};
 ghost use Rattle.gixobj_files.specs.Files.{is_null};
 ghost use Rattle.gixobj_files.specs.WrittenTrees.{with_id};
-ghost use Rattle.gixobj_files.specs.FilteredTrees.{IsFilteredTree, id_among, filtered_out};
+ghost use Rattle.gixobj_files.specs.FilteredTrees.{IsFilteredTree, first_id_if_named, after_first_if_named};
 
 use crate::entries::{is_named, is_non_null};
 use gixobj_hash::hash::{Kind, ObjectId};
@@ -50,8 +50,8 @@ fn assign_ids(entries: &mut [Entry], written_tree: &[Entry])
 /// Sets an entry's id to that of the first of `pending` if the names are equal, or else to the null id.
 /// Returns what remains of `pending`.
 fn assign_id<'a>(entry: &mut Entry, pending: &'a [Entry]) -> &'a [Entry]
-    ensures id { entry.new ≡ with_id entry.old (id_among entry.old.name pending.now) }
-    ensures remaining { result.now ≡ filtered_out entry.old.name pending.now }
+    ensures id { entry.new ≡ with_id entry.old (first_id_if_named entry.old.name pending.now) }
+    ensures remaining { result.now ≡ after_first_if_named entry.old.name pending.now }
 {
     match pending.split_first() {
         Some((first, after)) if is_named(first, entry.filename.as_bytes()) => {

@@ -40,30 +40,30 @@ IsExistingError objects may_fail id (existing.Find cause) = IsFindError may_fail
 IsExistingError objects may_fail id (existing.NotFound said) = (said ≡ id) × NamesNone objects id
 
 -- the error of a lookup of undecoded content: the lookup failed, or the id names no object
-abbrev pub IsMissing : Objects → (ObjectId → Bool) → ObjectId → iter_error.Error → Type 0
-IsMissing objects may_fail id (iter.Find cause) = IsFindError may_fail id cause
-IsMissing objects may_fail id (iter.NotFound said) = (said ≡ id) × NamesNone objects id
-IsMissing objects may_fail id (iter.ObjectKind said actual expected) = ⊥
+abbrev pub IsContentLookupError : Objects → (ObjectId → Bool) → ObjectId → iter_error.Error → Type 0
+IsContentLookupError objects may_fail id (iter.Find cause) = IsFindError may_fail id cause
+IsContentLookupError objects may_fail id (iter.NotFound said) = (said ≡ id) × NamesNone objects id
+IsContentLookupError objects may_fail id (iter.ObjectKind said actual expected) = ⊥
 
 -- the error of a lookup of an iterator: that of undecoded content, or the object is of another kind
 abbrev pub IsReaderError : Objects → (ObjectId → Bool) → Kind → ObjectId → iter_error.Error → Type 0
 IsReaderError objects may_fail kind id error =
-    IsMissing objects may_fail id error
+    IsContentLookupError objects may_fail id error
     ⊎ ((actual : Kind) × (error ≡ iter.ObjectKind id actual kind) × NamesOther objects id actual kind)
 
 -- the error of a decoding lookup: the lookup failed, the id names no object, or its content is not decoded as its kind
-abbrev pub FailsToRead : Objects → (ObjectId → Bool) → ObjectId → decoded.Error → Type 0
-FailsToRead objects may_fail id (object.Find cause) = IsFindError may_fail id cause
-FailsToRead objects may_fail id (object.NotFound said) = (said ≡ id) × NamesNone objects id
-FailsToRead objects may_fail id (object.Decode said cause) =
+abbrev pub IsDecodingLookupError : Objects → (ObjectId → Bool) → ObjectId → decoded.Error → Type 0
+IsDecodingLookupError objects may_fail id (object.Find cause) = IsFindError may_fail id cause
+IsDecodingLookupError objects may_fail id (object.NotFound said) = (said ≡ id) × NamesNone objects id
+IsDecodingLookupError objects may_fail id (object.Decode said cause) =
     (said ≡ id) × ((kept : StoredObject) × Names objects id kept
     × IsObjectDecodeError kept.object_hash kept.kind kept.bytes cause)
-FailsToRead objects may_fail id (object.ObjectKind said actual expected) = ⊥
+IsDecodingLookupError objects may_fail id (object.ObjectKind said actual expected) = ⊥
 
 -- the error of a lookup of an object of this kind: that of a decoding lookup, or the object is of another kind, and its
 -- content is the encoding of one
 abbrev pub IsFindObjectError : Objects → (ObjectId → Bool) → Kind → ObjectId → decoded.Error → Type 0
 IsFindObjectError objects may_fail kind id error =
-    FailsToRead objects may_fail id error
+    IsDecodingLookupError objects may_fail id error
     ⊎ ((actual : Kind) × (error ≡ object.ObjectKind id actual kind) × (actual ≢ kind)
     × NamesSuch objects id actual (λ hash content. IsEncodingOf hash actual content))

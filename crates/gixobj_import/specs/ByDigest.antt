@@ -21,7 +21,7 @@ AddsByDigest before after =
     (id : ObjectId) → (named after id ≡ named before id) ⊎ NamesByDigest after id
 
 -- the id names the commit of these bytes, or another object whose digest is the same id
-pub record NamesCommit (objects : Objects) (id : ObjectId) (content : List ℕ) : Type 0 where
+pub record NamesCommitOrCollision (objects : Objects) (id : ObjectId) (content : List ℕ) : Type 0 where
   pub it : StoredObject
   pub named_so : Names objects id it
   pub which : (it ≡ commit_object id content) ⊎ (digest_id it ≡ id)

@@ -16,7 +16,7 @@ use Rattle.gixobj_hash.specs.declared.kind.Kind.TheVariants.{Commit}
 use Rattle.gixobj_keep.specs.Keeping.{with_commit, with_trees}
 use Rattle.gixobj_line.specs.Commit.{DecodesToCommit}
 use Rattle.gixobj_editor.specs.RunTables.{AgreesWithObjects}
-use Rattle.gixobj_import.specs.ByDigest.{NamesCommit}
+use Rattle.gixobj_import.specs.ByDigest.{NamesCommitOrCollision}
 use Rattle.gixobj_import.specs.Commits.{NamesSignature, step_commit, encode_step}
 use Rattle.gixobj_import.specs.Edited.{steps_if_done}
 use Rattle.gixobj_import.specs.declared.import.Imported.{Imported}
@@ -78,7 +78,7 @@ pub record IsCommitOf (hash : hash.Kind) (parent : Option ObjectId) (step : Step
   pub decodes : DecodesToCommit hash (encode_step step it.written.id parent) (step_commit step it.written.id parent)
   pub author : NamesSignature (encode_owned_actor step.author) step.author
   pub committer : NamesSignature (encode_owned_actor step.committer) step.committer
-  pub stored : NamesCommit objects it.commit (encode_step step it.written.id parent)
+  pub stored : NamesCommitOrCollision objects it.commit (encode_step step it.written.id parent)
 
 -- each step has its commit, on the commit of the step before; there is one import for each step
 abbrev pub AreCommitsOf : hash.Kind → Option ObjectId → List Step → List Imported → Objects → Type 0

@@ -7,7 +7,7 @@ use Rattle.gix_object.specs.Files.{ContainsEntry, Path}
 use Rattle.gix_object.specs.Stores.{Objects}
 use Rattle.gix_object.specs.hash.hash.object_id.ObjectId.{ObjectId}
 use Rattle.gixobj_listings.specs.Changes.{EntryPairView}
-use Rattle.gixobj_listings.specs.Differences.{IsChangesError, IsChangesErrorAt, SideLeads}
+use Rattle.gixobj_listings.specs.Differences.{IsChangesError, IsChangesErrorAt, LeadsThroughEntry}
 use Rattle.gixobj_listings.specs.Listings.{IsDirectory, IsErrorWithin, IsListError, IsListErrorAt, IsUnread, IsUnreadError, LeadsToDirectory}
 use Rattle.gixobj_listings.specs.Roots.{IsRoot}
 use Rattle.gixobj_listings.specs.declared.listing.ListError.{ListError}
@@ -25,7 +25,7 @@ module _ (objects : Objects) (may_fail : ObjectId → Bool) (depth : ℕ) where
   -- the error of the files of an entry, as one of a pair that leads to its directories
   error_of_inner : (pair : EntryPairView) (e : EntryView)
       → ((path : Path) (id : ObjectId) → LeadsToDirectory objects e.id path id
-      → SideLeads objects pair.0 (e.name ∷ path) id ⊎ SideLeads objects pair.1 (e.name ∷ path) id)
+      → LeadsThroughEntry objects pair.0 (e.name ∷ path) id ⊎ LeadsThroughEntry objects pair.1 (e.name ∷ path) id)
       → (inner error : ListError) → IsListError objects may_fail depth e.id inner → IsErrorWithin e.name inner error
       → IsChangesErrorAt objects may_fail depth pair error
   error_of_inner pair e leads (list.Directory path id cause) (list.Directory path' id' cause') (first, why) (longer, same_id, same_cause) =
@@ -67,7 +67,7 @@ module _ (objects : Objects) (may_fail : ObjectId → Bool) (depth : ℕ) where
   has_side entries (Some e) = ContainsEntry entries e
 
   leads_from_root : (root : ObjectId) (entries : List EntryView) → IsRoot objects root entries → (side : Option EntryView) → has_side entries side
-      → (path : Path) (id : ObjectId) → SideLeads objects side path id
+      → (path : Path) (id : ObjectId) → LeadsThroughEntry objects side path id
       → LeadsToDirectory objects root path id
   leads_from_root root entries is None has path id leads = absurd leads
   leads_from_root root entries is (Some e) has [] id leads = absurd leads

@@ -17,7 +17,7 @@ use Rattle.gixobj_listings.proofs.PairChanges.{are_changes_congruent, changes_of
 use Rattle.gixobj_listings.proofs.Rooted.{root_named, root_there}
 use Rattle.gixobj_listings.proofs.Unread.{has_tree_of_read}
 use Rattle.gixobj_listings.specs.Changes.{ChangeView, EntryPairView, FilesOfSide, IsChangeOfPairs, ListsChange, Merges, addition, removal, side_unless_null}
-use Rattle.gixobj_listings.specs.Differences.{AloneIsRead, HasChanges, HasChangesAt}
+use Rattle.gixobj_listings.specs.Differences.{IsReadIfAlone, HasChanges, HasChangesAt}
 use Rattle.gixobj_listings.specs.FileLists.{FileView}
 use Rattle.gixobj_listings.specs.Listings.{HasFilesAt, IsRead}
 use Rattle.gixobj_listings.specs.Roots.{IsRoot}
@@ -68,26 +68,26 @@ module _ (same_or_not : (x y : ObjectId) → (x ≡ y) ⊎ (x ≢ y)) (objects :
 
   -- ---- the changes of two roots
 
-  alone_left : (pairs : List EntryPairView) → AllByRecursion (AloneIsRead objects) pairs → (T : Table) (trees : Trees) → AreTreesOf objects trees
+  alone_left : (pairs : List EntryPairView) → AllByRecursion (IsReadIfAlone objects) pairs → (T : Table) (trees : Trees) → AreTreesOf objects trees
       → AgreesWithStore T trees → (e : EntryView) → IsAmongPairs pairs (Some e, None)
       → HasTreeIfDirectory T e
   alone_left [] all T trees fits agrees e among = absurd among
   alone_left (pair ∷ pairs) all T trees fits agrees e (inl is) =
-      has_tree_of_read same_or_not T objects trees fits agrees e (subst (AloneIsRead objects) is all.0)
+      has_tree_of_read same_or_not T objects trees fits agrees e (subst (IsReadIfAlone objects) is all.0)
   alone_left (pair ∷ pairs) all T trees fits agrees e (inr among) = alone_left pairs all.1 T trees fits agrees e among
 
-  alone_right : (pairs : List EntryPairView) → AllByRecursion (AloneIsRead objects) pairs → (T : Table) (trees : Trees) → AreTreesOf objects trees
+  alone_right : (pairs : List EntryPairView) → AllByRecursion (IsReadIfAlone objects) pairs → (T : Table) (trees : Trees) → AreTreesOf objects trees
       → AgreesWithStore T trees → (e : EntryView) → IsAmongPairs pairs (None, Some e)
       → HasTreeIfDirectory T e
   alone_right [] all T trees fits agrees e among = absurd among
   alone_right (pair ∷ pairs) all T trees fits agrees e (inl is) =
-      has_tree_of_read same_or_not T objects trees fits agrees e (subst (AloneIsRead objects) is all.0)
+      has_tree_of_read same_or_not T objects trees fits agrees e (subst (IsReadIfAlone objects) is all.0)
   alone_right (pair ∷ pairs) all T trees fits agrees e (inr among) = alone_right pairs all.1 T trees fits agrees e among
 
   -- the changes of the pairs of two roots are those between the trees
   pub has_changes_of_roots : (depth : ℕ) → depth ≢ 0 → (from to : ObjectId) (before after : List EntryView) → IsRoot objects from before
       → IsRoot objects to after
-      → (pairs : List EntryPairView) → Merges before after pairs → AllByRecursion (AloneIsRead objects) pairs
+      → (pairs : List EntryPairView) → Merges before after pairs → AllByRecursion (IsReadIfAlone objects) pairs
       → (changes : List ChangeView)
       → ((trees : Trees) → AreTreesOf objects trees → (T : Table) (n : ℕ) → AgreesWithStore T trees → depth ≤ n + 1
       → (change : ChangeView) → ListsChange changes change ↔ IsChangeOfPairs T n pairs change)

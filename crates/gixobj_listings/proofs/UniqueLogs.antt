@@ -3,7 +3,7 @@ use Rattle.std.proofs.Common.{◌≡◌, ◌∙◌, ◌∷◌, ◌<◌, ◌≤�
 use Rattle.std.specs.Prelude.{IsFalse}
 use Rattle.gix_object.specs.Actor.{IsActorLine}
 use Rattle.gix_object.specs.Commit.{CommitLines, DecodesToCommit}
-use Rattle.gix_object.specs.Existing.{FailsToRead, IsFindObjectError}
+use Rattle.gix_object.specs.Existing.{IsDecodingLookupError, IsFindObjectError}
 use Rattle.gix_object.specs.Hash.{DecodesToId}
 use Rattle.gix_object.specs.Hash.Hex.{decoded_id}
 use Rattle.gix_object.specs.ObjectReading.{IsObjectDecodeError}
@@ -85,7 +85,7 @@ logged_unique commits actors ids objects one other parent parent' same is is' =
 -- ---- a commit that is read
 
 found_is_unread : (objects : Objects) (may_fail : ObjectId → Bool) (id : ObjectId) (commit : CommitLines) (cause : Error) → IsFalse (may_fail id)
-    → NamesCommit objects id commit → FailsToRead objects may_fail id cause → ¬ IsAllocationFailure cause → ⊥
+    → NamesCommit objects id commit → IsDecodingLookupError objects may_fail id cause → ¬ IsAllocationFailure cause → ⊥
 found_is_unread objects may_fail id commit (existing.Find (find.Store message)) never named fails not_memory = cc (never, fails)
 found_is_unread objects may_fail id commit (existing.Find find.OutOfMemory) never named fails not_memory = not_memory tt
 found_is_unread objects may_fail id commit (existing.NotFound said) never (kept, names, kind, decodes) (same, none) not_memory = cc (names, none)

@@ -66,11 +66,11 @@ abbrev pub IsAtPair : EntryPairView → ChangeView → Type 0
 IsAtPair pair change = AllByRecursion (λ e. has_names change.path ≡ is_tree_mode e.mode) (sides pair)
 
 -- if the pair is a directory alone, the store has each directory of its tree
-abbrev pub AloneIsRead : Objects → EntryPairView → Type 0
-AloneIsRead objects (None, None) = ⊤
-AloneIsRead objects (Some e, None) = AreReadBelow objects e
-AloneIsRead objects (None, Some e) = AreReadBelow objects e
-AloneIsRead objects (Some e, Some other) = ⊤
+abbrev pub IsReadIfAlone : Objects → EntryPairView → Type 0
+IsReadIfAlone objects (None, None) = ⊤
+IsReadIfAlone objects (Some e, None) = AreReadBelow objects e
+IsReadIfAlone objects (None, Some e) = AreReadBelow objects e
+IsReadIfAlone objects (Some e, Some other) = ⊤
 
 -- ---- errors
 
@@ -82,15 +82,17 @@ IsChangesError objects may_fail depth from to (list.Directory path id cause) =
 IsChangesError objects may_fail depth from to list.OutOfMemory = ⊤
 
 -- the path, which begins with the name of the entry, leads to a directory at or below the entry
-abbrev pub SideLeads : Objects → Option EntryView → Path → ObjectId → Type 0
-SideLeads objects None path id = ⊥
-SideLeads objects (Some e) [] id = ⊥
-SideLeads objects (Some e) (name ∷ path) id = (e.name ≡ name) × IsDirectory e × LeadsToDirectory objects e.id path id
+abbrev pub LeadsThroughEntry : Objects → Option EntryView → Path → ObjectId → Type 0
+LeadsThroughEntry objects None path id = ⊥
+LeadsThroughEntry objects (Some e) [] id = ⊥
+LeadsThroughEntry objects (Some e) (name ∷ path) id =
+    (e.name ≡ name) × IsDirectory e × LeadsToDirectory objects e.id path id
 
 -- the error of a comparison of two entries: a directory at or below one of them isn't read; or out of memory
 abbrev pub IsChangesErrorAt : Objects → (ObjectId → Bool) → ℕ → EntryPairView → ListError → Type 0
 IsChangesErrorAt objects may_fail depth pair (list.Directory path id cause) =
-    (SideLeads objects pair.0 (names_of path.items) id ⊎ SideLeads objects pair.1 (names_of path.items) id)
+    (LeadsThroughEntry objects pair.0 (names_of path.items) id
+    ⊎ LeadsThroughEntry objects pair.1 (names_of path.items) id)
     × IsUnreadError objects may_fail (depth + 1) (names_of path.items) id cause
 IsChangesErrorAt objects may_fail depth pair list.OutOfMemory = ⊤
 

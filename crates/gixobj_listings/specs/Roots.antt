@@ -3,7 +3,7 @@ use Rattle.std.specs.Prelude.{◌≡◌, ◌≢◌, Bool, List, []}
 use Rattle.gix_object.specs.Entries.{EntryView}
 use Rattle.gix_object.specs.WellFormed.{IsWellFormed}
 use Rattle.gix_object.specs.Stores.{Objects}
-use Rattle.gix_object.specs.Openings.{NamesMalformed, NamesTree}
+use Rattle.gix_object.specs.Openings.{NamesIllFormedTree, NamesTree}
 use Rattle.gix_object.specs.Existing.{IsEmptyId, NamesSuch, IsFindObjectError}
 use Rattle.gix_object.specs.TreeDecoding.{DecodesToTree}
 use Rattle.gix_object.specs.hash.hash.object_id.ObjectId.{ObjectId}
@@ -25,7 +25,7 @@ NamesFilled objects id = (entries : List EntryView)
 -- the errors of a stored root: the lookup fails, or the tree isn't well-formed, or allocation of its entries fails
 abbrev pub IsStoredRootError : Objects → (ObjectId → Bool) → ObjectId → RootError → Type 0
 IsStoredRootError objects may_fail id (root.Find cause) = IsFindObjectError objects may_fail Tree id cause
-IsStoredRootError objects may_fail id root.Malformed = NamesMalformed objects id
+IsStoredRootError objects may_fail id root.Malformed = NamesIllFormedTree objects id
 IsStoredRootError objects may_fail id root.OutOfMemory = NamesFilled objects id
 
 -- the errors of a root; there are none for the empty tree's id

@@ -6,7 +6,7 @@ ghost use Rattle.bstr.specs.Owned.{bstring_bytes};
 ghost use Rattle.gix_object.specs.Files.{is_null};
 ghost use Rattle.gix_object.specs.Mode.{mode_bits};
 ghost use Rattle.gixobj_listings.specs.Changes.{AreChangesInOrder, HasName, addition, removal, side_unless_null, with_name_first};
-ghost use Rattle.gixobj_listings.specs.Differences.{AloneIsRead, HasChanges, HasChangesAt, IsAtPair, IsChangesError, IsChangesErrorAt, IsTreeInError, pair_view};
+ghost use Rattle.gixobj_listings.specs.Differences.{IsReadIfAlone, HasChanges, HasChangesAt, IsAtPair, IsChangesError, IsChangesErrorAt, IsTreeInError, pair_view};
 ghost use Rattle.gixobj_listings.specs.FileLists.{has_names};
 ghost use Rattle.gixobj_listings.specs.Listings.{IsRead};
 ghost use Rattle.gixobj_listings.specs.Roots.{IsRoot};
@@ -154,7 +154,7 @@ fn changes_at<S: Find>(
     ensures ordered { IfOk result (λ changes. AreChangesInOrder changes.items) }
     ensures paths { IfOk result (λ changes.
         AllByRecursion (IsAtPair (pair_view pair.entry)) changes.items) }
-    ensures alone { OnOk result (AloneIsRead (S.objects store.now) (pair_view pair.entry)) }
+    ensures alone { OnOk result (IsReadIfAlone (S.objects store.now) (pair_view pair.entry)) }
     ensures error { IfErr result (IsChangesErrorAt (S.objects store.now) (S.may_fail store.now)
         depth (pair_view pair.entry)) }
 {

@@ -11,7 +11,7 @@ use Rattle.gix_object.specs.Entries.{EntryView, Pair}
 use Rattle.gix_object.specs.Files.{Below, ContainsEntry, Files, NamedFiles, SameFiles, Table, Trees, resolves_to}
 use Rattle.gix_object.specs.Hash.{id_kind}
 use Rattle.gix_object.specs.Mode.{is_tree_mode}
-use Rattle.gix_object.specs.Tables.{AgreesWithPairs, AgreesWithStore, HasOneId}
+use Rattle.gix_object.specs.Tables.{AgreesWithPairs, AgreesWithStore, HasOneIdPerTree}
 use Rattle.gix_object.specs.hash.hash.kind.Kind.{Kind}
 use Rattle.gix_object.specs.hash.hash.object_id.ObjectId.{ObjectId}
 use Rattle.gixobj_mirrors.specs.Canonical.{AgreesWithBoth, IsCanonicalTree, IsCanonicalEntry, IsCanonicalRoot}
@@ -96,7 +96,7 @@ module _ (shared : Table) (trees others : Trees) (hash : Kind) (both : AgreesWit
       let Known : Pair → Type 0 = λ pair. (shared.tree_at pair.0 ≡ Some pair.1) × (id_kind pair.0 ≡ hash) in
       let all = All-from_recursion Known pairs (all_joined Known one.0 other.0 one.1 other.1) in
       let known : AgreesWithPairs shared pairs = λ k d lt. (all k d lt).0 in
-      let one_id : HasOneId pairs = λ tree x y h k.
+      let one_id : HasOneIdPerTree pairs = λ tree x y h k.
       let of_x = All-contains Known pairs (x, tree) all h in
       let of_y = All-contains Known pairs (y, tree) all k in
       both.one_id tree x y (of_x.1 ∙ sym of_y.1) of_x.0 of_y.0 in

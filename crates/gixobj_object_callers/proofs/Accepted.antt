@@ -8,7 +8,7 @@ use Rattle.gix_object.specs.Plans.{CarriesOut, done}
 use Rattle.gix_object.specs.ProgramCalls.{Answer, CallView, OutputView, failed, no_memory, ran}
 use Rattle.gix_object.specs.SshReports.{ssh_report, ssh_status}
 use Rattle.gix_object.specs.Verifiers.{VerifyOptionsView, ProgramView, SshView, by_open_pgp, by_ssh, by_x509}
-use Rattle.gix_object.specs.Verifying.{IsOutcomeOf, Verified, accepts, gpg_verify_plan, human, mismatch, not_run, principals_in, reported, ssh_verified, ssh_verify_plan, tries, unsupported, verify_plan}
+use Rattle.gix_object.specs.Verifying.{IsOutcomeOf, VerifyOutcome, accepts, gpg_verify_plan, human, mismatch, not_run, principals_in, reported, ssh_verified, ssh_verify_plan, tries, unsupported, verify_plan}
 use Rattle.gix_object.specs.VerifyingCalls.{open_pgp_call, principal_call, x509_call}
 use Rattle.gix_object.specs.report.report.Outcome.{Outcome}
 use Rattle.gix_object.specs.report.report.Status.{Status}
@@ -22,7 +22,7 @@ use Rattle.gixobj_object_callers.specs.AcceptedSignatures.{AcceptsPrincipal, Tri
 
 -- ---- accepted outcomes
 
-outcome_or : OutcomeView → Verified → OutcomeView
+outcome_or : OutcomeView → VerifyOutcome → OutcomeView
 outcome_or other (reported it) = it
 outcome_or other it = other
 
@@ -125,7 +125,7 @@ record Tries {S : Type 0} (runs : S → CallView → Answer → S → Type 0) (b
   in_vain : TriesInVain runs by ssh signature signed before old second
   yielded : OutputView
   requested : runs second (principal_call by ssh signature signed principal) (ran yielded) new
-  announced : outcome ≡ evaluated yielded.success by.minimum (ssh_report (human yielded) (cond (accepts yielded) (Some principal) None) trust.Fully)
+  time_or_default : outcome ≡ evaluated yielded.success by.minimum (ssh_report (human yielded) (cond (accepts yielded) (Some principal) None) trust.Fully)
   last : accepts yielded ≡ false → following ≡ []
 
 -- no principal remains, and the outcome is that of the output of the call before, if there was one
@@ -155,7 +155,7 @@ module _ {S : Type 0} (runs : S → CallView → Answer → S → Type 0) (by : 
     in_vain = refl;
     yielded = seen;
     requested = subst (λ (end : S). runs s (principal_call by ssh signature signed principal) (ran seen) end) (sym end) run;
-    announced = subst (λ (b : Bool). outcome ≡ evaluated seen.success by.minimum (ssh_report (human seen) (cond b (Some principal) None) trust.Fully))
+    time_or_default = subst (λ (b : Bool). outcome ≡ evaluated seen.success by.minimum (ssh_report (human seen) (cond b (Some principal) None) trust.Fully))
         (sym is)
         (reported_injective outcome (evaluated seen.success by.minimum (ssh_report (human seen) (Some principal) trust.Fully)) same);
     last = λ rejected. absurd (let never : true ≡ false = sym is ∙ rejected in cc);
@@ -171,7 +171,7 @@ module _ {S : Type 0} (runs : S → CallView → Answer → S → Type 0) (by : 
           in_vain = (seen, m, run, is, later.in_vain);
           yielded = later.yielded;
           requested = later.requested;
-          announced = later.announced;
+          time_or_default = later.time_or_default;
           last = later.last;
         }
         | inr (none, end, said) ↦ record {
@@ -183,7 +183,7 @@ module _ {S : Type 0} (runs : S → CallView → Answer → S → Type 0) (by : 
           in_vain = refl;
           yielded = seen;
           requested = subst (λ (end : S). runs s (principal_call by ssh signature signed principal) (ran seen) end) (sym end) run;
-          announced = subst (λ (b : Bool). outcome ≡ evaluated seen.success by.minimum
+          time_or_default = subst (λ (b : Bool). outcome ≡ evaluated seen.success by.minimum
               (ssh_report (human seen) (cond b (Some principal) None) trust.Fully))
               (sym is) said;
           last = λ rejected. none;
@@ -227,7 +227,7 @@ module _ {S : Type 0} (runs : S → CallView → Answer → S → Type 0) (by : 
       let (is_named, it) = named_some named first t outcome named.success refl outcome_is valid in
       let (succeeded, good, trusted) = ssh_report_good_of_valid it.yielded.success by (human it.yielded) (cond (accepts it.yielded) (Some it.principal) None)
       trust.Fully
-      (sym (ap (λ (it : OutcomeView). it.valid) it.announced) ∙ valid) in
+      (sym (ap (λ (it : OutcomeView). it.valid) it.time_or_default) ∙ valid) in
       record {
         named = named;
         first = first;
@@ -244,7 +244,7 @@ module _ {S : Type 0} (runs : S → CallView → Answer → S → Type 0) (by : 
         succeeded = succeeded;
         good = good;
         trusted = trusted;
-        reported = it.announced;
+        reported = it.time_or_default;
         last = it.last;
       }
   ssh_accepted s t outcome (failed why, m, run, (same, end)) valid = absurd (let never : reported outcome ≡ not_run why = same in cc)

@@ -6,7 +6,7 @@ use Rattle.std.specs.declared.vec.Vec.{Vec}
 use Rattle.bstr.specs.Owned.{bstring_bytes}
 use Rattle.gixobj_sorted.specs.Pieces.{AreNonEmpty}
 use Rattle.gixobj_open.specs.Children.{remaining_list}
-use Rattle.gixobj_open.specs.Copies.{IsHalfCopied}
+use Rattle.gixobj_open.specs.Copies.{IsCopiedInPart}
 use Rattle.gixobj_open.specs.Nested.{IsLevel, Opened, below, length-under, opened, part, parts, under}
 use Rattle.gixobj_open.specs.declared.children.Remaining.{Remaining}
 use Rattle.gixobj_open.specs.declared.copying.Copying.{Copying}
@@ -16,7 +16,7 @@ use Rattle.gixobj_open.specs.declared.open.Child.{Child}
 abbrev pub AllCopied : Opened → List Copying → List ℕ → Opened → Type 0
 AllCopied root [] name node = root ≡ node
 AllCopied root (f ∷ fs) name node = (above : Opened) × AllCopied root fs (bstring_bytes f.name) above
-    × IsHalfCopied f ((name, node) ∷ parts (remaining_list f.remaining)) above
+    × IsCopiedInPart f ((name, node) ∷ parts (remaining_list f.remaining)) above
 
 abbrev pub copying_weight : Copying → ℕ
 copying_weight f = 2 * length (below (parts (remaining_list f.remaining))) + 1
@@ -31,8 +31,8 @@ copying_weights_pop (g ∷ fs) f = omega (arith, copying_weights_pop fs f)
 
 -- the next directory is begun
 pub half_copied_begun : (f : Copying) (r : Remaining) (child : Child) (node : Opened) → remaining_list f.remaining ≡ child ∷ remaining_list r
-    → AreNonEmpty (λ (p : Vec Child Global). p.items) r.more.now → IsHalfCopied f (parts (remaining_list f.remaining)) node
-    → IsHalfCopied (record { name = f.name; entries = f.entries; base = f.base; copies = f.copies; remaining = r })
+    → AreNonEmpty (λ (p : Vec Child Global). p.items) r.more.now → IsCopiedInPart f (parts (remaining_list f.remaining)) node
+    → IsCopiedInPart (record { name = f.name; entries = f.entries; base = f.base; copies = f.copies; remaining = r })
     ((bstring_bytes child.name, child.open) ∷ parts (remaining_list r)) node
 half_copied_begun f r child node next filled so = record {
   view = ap (λ cs. opened f.entries f.base (parts f.copies.items ++ parts cs)) (sym next) ∙ so.view;
@@ -51,7 +51,7 @@ copying_weight_begun f r child next = omega (
 )
 
 -- no directory remains
-pub view_of_copied : (f : Copying) (node : Opened) → remaining_list f.remaining ≡ [] → IsHalfCopied f (parts (remaining_list f.remaining)) node
+pub view_of_copied : (f : Copying) (node : Opened) → remaining_list f.remaining ≡ [] → IsCopiedInPart f (parts (remaining_list f.remaining)) node
     → opened f.entries f.base (parts f.copies.items) ≡ node
 view_of_copied f node none so = ap (opened f.entries f.base) (sym (append-nil (parts f.copies.items)))
     ∙ ap (λ cs. opened f.entries f.base (parts f.copies.items ++ parts cs)) (sym none) ∙ so.view
@@ -59,8 +59,8 @@ view_of_copied f node none so = ap (opened f.entries f.base) (sym (append-nil (p
 -- the directory above gets the copy
 pub half_copied_ended : (f : Copying) (copies : Vec Child Global) (child : Child) (node : Opened) (inner : Opened) (name : List ℕ)
     → copies.items ≡ f.copies.items ++ child ∷ [] → bstring_bytes child.name ≡ name → child.open ≡ inner
-    → IsHalfCopied f ((name, inner) ∷ parts (remaining_list f.remaining)) node
-    → IsHalfCopied (record { name = f.name; entries = f.entries; base = f.base; copies = copies; remaining = f.remaining })
+    → IsCopiedInPart f ((name, inner) ∷ parts (remaining_list f.remaining)) node
+    → IsCopiedInPart (record { name = f.name; entries = f.entries; base = f.base; copies = copies; remaining = f.remaining })
     (parts (remaining_list f.remaining)) node
 half_copied_ended f copies child node inner name pushed named there so =
     let rest = parts (remaining_list f.remaining) in

@@ -8,7 +8,7 @@ use Rattle.gixobj_open.specs.declared.copying.Copying.{Copying}
 use Rattle.gixobj_open.specs.declared.open.Child.{Child}
 
 -- the copy of this directory is begun; after those that are copied, these directories are open in it
-pub record IsHalfCopied (f : Copying) (others : List Part) (node : Opened) : Type 0 where
+pub record IsCopiedInPart (f : Copying) (others : List Part) (node : Opened) : Type 0 where
   pub view : opened f.entries f.base (parts f.copies.items ++ others) ≡ node
   pub level : IsLevel f.entries (parts f.copies.items ++ others)
   pub filled : AreNonEmpty (λ (p : Vec Child Global). p.items) f.remaining.more.now

@@ -1,7 +1,7 @@
 //! Copies of open directories, by a loop over a list of frames, so the path may be of any depth.
 ghost use Rattle.std.specs.Prelude.{◌≡◌, ◌+◌, ◌++◌, ◌∷◌, [], IfOk, OnOk, length};
 ghost use Rattle.gixobj_open.specs.Children.{remaining_list};
-ghost use Rattle.gixobj_open.specs.Copies.{IsHalfCopied};
+ghost use Rattle.gixobj_open.specs.Copies.{IsCopiedInPart};
 ghost use Rattle.gixobj_open.specs.Nested.{IsLevel, below, opened, parts};
 
 use crate::children::Remaining;
@@ -72,7 +72,7 @@ fn wait<'a>(
 /// Begins the copy of a directory, which has this name.
 fn begin(alloc: Global, name: BString, node: &Open) -> Result<Copying<'_>, AllocError>
     ensures name { IfOk result (λ it. it.name ≡ name) }
-    ensures half { IfOk result (λ it. IsHalfCopied it (parts (remaining_list it.remaining)) node.now) }
+    ensures half { IfOk result (λ it. IsCopiedInPart it (parts (remaining_list it.remaining)) node.now) }
     ensures fewer { IfOk result (λ it. length (below (parts (remaining_list it.remaining))) + 1
         ≡ length node.now) }
 {

@@ -3,7 +3,7 @@ use Rattle.std.proofs.Common.{◌≡◌, ℕ, List, refl}
 use Rattle.std.specs.Prelude.{Option, Some, None, Result, Ok, Err, ⊤}
 use Rattle.gixobj_fields.proofs.Readers as readers
 use Rattle.gixobj_fields.proofs.Runs as runs
-use Rattle.gixobj_fields.specs.Iterators.{FindsFirst, FindsNone, YieldsNone}
+use Rattle.gixobj_fields.specs.Iterators.{FindsFirst, IsRequiredSearchError, YieldsNone}
 use Rattle.gixobj_fields.specs.Runs.{Ending, complete}
 use Rattle.gixobj_hash.specs.declared.decode.Error.{Error}
 use Rattle.gixobj_hash.specs.declared.decode.Error.TheVariants.{Malformed, OutOfMemory}
@@ -50,7 +50,7 @@ finds_first_at_token = readers.search_first tag_reader_state BeginsWithTagToken 
 
 -- no token allocates
 finds_none_is_malformed : (Is : TagTokenView → Type 0) (reader : TagRefIter) (error : Error)
-    → FindsNone tag_reader_state BeginsWithTagToken NoTokenAllocates Is reader error
+    → IsRequiredSearchError tag_reader_state BeginsWithTagToken NoTokenAllocates Is reader error
     → (error ≡ Malformed) × ((ending : Ending) × YieldsNone tag_reader_state BeginsWithTagToken Is reader ending)
 finds_none_is_malformed Is reader Malformed none = (refl, none)
 finds_none_is_malformed Is reader OutOfMemory (before, input, begins_with, wants) = absurd wants

@@ -28,8 +28,8 @@ IsAtStartOfCommit kind content reader =
     commit_reader_state reader ≡ record { kind = kind; state = state.Tree; bytes = content }
 
 -- at most as many tokens remain as bytes
-abbrev pub remaining_commit_tokens : CommitRefIter → Count
-remaining_commit_tokens reader = at_most (length (commit_reader_state reader).bytes)
+abbrev pub remaining_commit_token_count : CommitRefIter → Count
+remaining_commit_token_count reader = at_most (length (commit_reader_state reader).bytes)
 
 -- a header value of one line is borrowed, a value of several lines is owned
 abbrev pub BorrowsValue : Token → Type 0

@@ -39,8 +39,8 @@ remaining_states state.Body = 1
 remaining_states state.End = 0
 
 -- at most as many tokens remain as bytes and states
-abbrev pub remaining_tag_tokens : TagRefIter → Count
-remaining_tag_tokens reader =
+abbrev pub remaining_tag_token_count : TagRefIter → Count
+remaining_tag_token_count reader =
     at_most (length (tag_reader_state reader).bytes + remaining_states (tag_reader_state reader).state)
 
 -- no token allocates

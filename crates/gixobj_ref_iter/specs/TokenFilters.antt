@@ -7,7 +7,7 @@ use Rattle.gixobj_hash.specs.declared.hash.object_id.ObjectId.{ObjectId}
 use Rattle.gixobj_ref_iter.specs.CommitTokens.{CommitTokenView, BeginsWithCommitToken, parent_token}
 use Rattle.gixobj_fields.specs.Iterators as readers
 use Rattle.gixobj_line.specs.Lines.{NeedsAllocation}
-use Rattle.gixobj_ref_iter.specs.CommitTokenSteps.{remaining_commit_tokens, commit_reader_state}
+use Rattle.gixobj_ref_iter.specs.CommitTokenSteps.{remaining_commit_token_count, commit_reader_state}
 use Rattle.gixobj_ref_iter.specs.TokenSearch.{IsActorToken, IsActorTokenOf, IsParentToken}
 use Rattle.gixobj_ref_iter.specs.declared.commit.CommitRefIter.{CommitRefIter}
 use Rattle.gixobj_ref_iter.specs.declared.commit.filters.ParentIds.{ParentIds}
@@ -22,12 +22,12 @@ abbrev pub actors_reader : Signatures → CommitRefIter
 actors_reader it = it.tokens
 
 -- at most one parent for each token that remains
-abbrev pub remaining_parent_ids : ParentIds → Count
-remaining_parent_ids it = remaining_commit_tokens (parents_reader it)
+abbrev pub remaining_parent_id_count : ParentIds → Count
+remaining_parent_id_count it = remaining_commit_token_count (parents_reader it)
 
 -- at most one actor for each token that remains
-abbrev pub remaining_actors : Signatures → Count
-remaining_actors it = remaining_commit_tokens (actors_reader it)
+abbrev pub remaining_actor_count : Signatures → Count
+remaining_actor_count it = remaining_commit_token_count (actors_reader it)
 
 -- after tokens without the first property, the iterator consumes one with the second
 abbrev pub ReadsFirstToken : (CommitTokenView → Type 0) → (CommitTokenView → Type 0) → CommitRefIter → CommitRefIter

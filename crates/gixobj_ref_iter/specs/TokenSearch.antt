@@ -39,9 +39,9 @@ abbrev pub EndsSearch : (CommitTokenView → Type 0) → CommitRefIter → Searc
 EndsSearch Is reader (first_token token) = readers.FindsFirst commit_reader_state BeginsWithCommitToken Is reader token
 EndsSearch Is reader (no_token ending) = readers.YieldsNone commit_reader_state BeginsWithCommitToken Is reader ending
 EndsSearch Is reader (required_error error) =
-    readers.FindsNone commit_reader_state BeginsWithCommitToken (λ kind. NeedsAllocation) Is reader error
+    readers.IsRequiredSearchError commit_reader_state BeginsWithCommitToken (λ kind. NeedsAllocation) Is reader error
 EndsSearch Is reader (optional_error error) =
-    readers.FindsFault commit_reader_state BeginsWithCommitToken (λ kind. NeedsAllocation) Is reader error
+    readers.IsOptionalSearchError commit_reader_state BeginsWithCommitToken (λ kind. NeedsAllocation) Is reader error
 
 -- the token is a parent
 abbrev pub IsParentToken : CommitTokenView → Type 0

@@ -3,7 +3,7 @@ ghost use Rattle.std.specs.Prelude.{◌≡◌, MatchOption, None, Some};
 ghost use Rattle.gixobj_hash.specs.Hash.Borrowed.{borrowed_id};
 ghost use Rattle.gixobj_line.specs.Lines.{HasHex, IsParsedLine, line_view};
 ghost use Rattle.gixobj_ref_iter.specs.CommitTokens.{IsTokenOfLine, commit_token_view};
-ghost use Rattle.gixobj_ref_iter.specs.CommitTokenSteps.{BorrowsValue, NextCommitToken, IsAtStartOfCommit, commit_token_id, remaining_commit_tokens};
+ghost use Rattle.gixobj_ref_iter.specs.CommitTokenSteps.{BorrowsValue, NextCommitToken, IsAtStartOfCommit, commit_token_id, remaining_commit_token_count};
 
 mod access;
 mod filters;
@@ -73,7 +73,7 @@ impl<'a> Iterator for CommitRefIter<'a> {
 
     ghost next_gives = { NextCommitToken };
 
-    ghost remaining = { remaining_commit_tokens };
+    ghost remaining = { remaining_commit_token_count };
 
     fn next(&mut self) -> Option<Result<Token<'a>, Error>> {
         if self.bytes.is_empty() {

@@ -2,7 +2,7 @@
 ghost use Rattle.std.specs.Prelude.{◌≡◌, IfErr, IfOk};
 ghost use Rattle.gixobj_fields.specs.Runs.{Ending};
 ghost use Rattle.gixobj_hash.specs.declared.decode.Error.TheVariants.{Malformed};
-ghost use Rattle.gixobj_ref_iter.specs.TagTokenSteps.{FindsTagger, NextIdOfTag, NextTagToken, IsAtStartOfTag, YieldsNoTagger, remaining_tag_tokens};
+ghost use Rattle.gixobj_ref_iter.specs.TagTokenSteps.{FindsTagger, NextIdOfTag, NextTagToken, IsAtStartOfTag, YieldsNoTagger, remaining_tag_token_count};
 
 mod signature;
 
@@ -95,7 +95,7 @@ impl<'a> Iterator for TagRefIter<'a> {
 
     ghost next_gives = { NextTagToken };
 
-    ghost remaining = { remaining_tag_tokens };
+    ghost remaining = { remaining_tag_token_count };
 
     fn next(&mut self) -> Option<Result<Token<'a>, Error>> {
         if self.bytes.is_empty() {

@@ -8,7 +8,7 @@ use Rattle.gixobj_signature.specs.Calls.{Answer, CallView, OutputView, ran, fail
 use Rattle.gixobj_signature.specs.Plans.{BeginsPlan, IsCarriedOut, IsRemainingPlan, Plan, run_then, done, no_more}
 use Rattle.gixobj_report.specs.declared.report.TrustLevel.TheVariants as trust
 use Rattle.gixobj_signature.specs.Verifiers.{ProgramView, SshView}
-use Rattle.gixobj_signature.specs.Verifying.{Verified, accepts, on_output, rest_plan, ssh_verified, tries}
+use Rattle.gixobj_signature.specs.Verifying.{VerifyOutcome, accepts, on_output, rest_plan, ssh_verified, tries}
 use Rattle.gixobj_signature.specs.VerifyingCalls.{principal_call}
 
 -- each plan may end before its first call
@@ -26,11 +26,11 @@ remaining_plan_after_answer runs call next answer s m u entire run remaining (So
 remaining_plan_after_answer runs call next answer s m u entire run remaining None t goes = remaining None t (inr (answer, m, run, goes))
 
 -- a call alone, of which only a failure or an allocation failure matters
-abbrev pub call_alone : CallView → Plan Verified
+abbrev pub call_alone : CallView → Plan VerifyOutcome
 call_alone call = run_then call (λ answer. on_output answer (λ it. no_more))
 
-carried_out_of_no_more : {S : Type 0} (runs : S → CallView → Answer → S → Type 0) (next : OutputView → Plan Verified)
-    (answer : Answer) (outcome : Option Verified)
+carried_out_of_no_more : {S : Type 0} (runs : S → CallView → Answer → S → Type 0) (next : OutputView → Plan VerifyOutcome)
+    (answer : Answer) (outcome : Option VerifyOutcome)
     (m t : S)
     → IsCarriedOut runs (on_output answer (λ it. no_more)) m outcome t → IsCarriedOut runs (on_output answer next) m outcome t
 carried_out_of_no_more runs next (ran it) (Some r) m t goes = absurd goes
@@ -39,8 +39,8 @@ carried_out_of_no_more runs next (failed why) outcome m t goes = goes
 carried_out_of_no_more runs next no_memory outcome m t goes = goes
 
 -- the result of a call without output is a result of each plan that begins with the call
-pub carried_out_of_no_answer : {S : Type 0} (runs : S → CallView → Answer → S → Type 0) (call : CallView) (next : OutputView → Plan Verified)
-    (outcome : Option Verified)
+pub carried_out_of_no_answer : {S : Type 0} (runs : S → CallView → Answer → S → Type 0) (call : CallView) (next : OutputView → Plan VerifyOutcome)
+    (outcome : Option VerifyOutcome)
     (s t : S)
     → IsCarriedOut runs (call_alone call) s outcome t → IsCarriedOut runs (run_then call (λ answer. on_output answer next)) s outcome t
 carried_out_of_no_answer runs call next (Some r) s t (answer, m, run, goes) = (answer, m, run, carried_out_of_no_more runs next answer (Some r) m t goes)
@@ -48,15 +48,15 @@ carried_out_of_no_answer runs call next None s t (inl same) = inl same
 carried_out_of_no_answer runs call next None s t (inr (answer, m, run, goes)) = inr (answer, m, run, carried_out_of_no_more runs next answer None m t goes)
 
 -- the plan after an output for a principal
-abbrev after_answer : ProgramView → SshView → List ℕ → List ℕ → List ℕ → List (List ℕ) → OutputView → Bool → Plan Verified
+abbrev after_answer : ProgramView → SshView → List ℕ → List ℕ → List ℕ → List (List ℕ) → OutputView → Bool → Plan VerifyOutcome
 after_answer by ssh signature signed principal principals it accepted =
     cond accepted (done (ssh_verified by it.success trust.Fully (Some principal) it)) (tries by ssh signature signed principals (Some it))
 
 -- the calls for a principal and for those after it remain of an entire plan
 module _ {S : Type 0} (runs : S → CallView → Answer → S → Type 0) (by : ProgramView) (ssh : SshView) (signature signed principal : List ℕ)
-    (principals : List (List ℕ)) (last : Option OutputView) (entire : Plan Verified) (s u : S)
+    (principals : List (List ℕ)) (last : Option OutputView) (entire : Plan VerifyOutcome) (s u : S)
     (remaining : IsRemainingPlan runs (tries by ssh signature signed (principal ∷ principals) last) s entire u) where
-  tries_failed : (outcome : Option Verified) (t : S) → IsCarriedOut runs (call_alone (principal_call by ssh signature signed principal)) s outcome t
+  tries_failed : (outcome : Option VerifyOutcome) (t : S) → IsCarriedOut runs (call_alone (principal_call by ssh signature signed principal)) s outcome t
       → IsCarriedOut runs entire u outcome t
   unfolding tries
   tries_failed outcome t goes = remaining outcome t (carried_out_of_no_answer runs (principal_call by ssh signature signed principal) _ outcome s t goes)
@@ -79,7 +79,7 @@ module _ {S : Type 0} (runs : S → CallView → Answer → S → Type 0) (by : 
 
 remaining_plan_of_no_principal : {S : Type 0} (runs : S → CallView → Answer → S → Type 0) (by : ProgramView) (ssh : SshView) (signature signed : List ℕ)
     (last : Option OutputView)
-    (entire : Plan Verified) (s u : S)
+    (entire : Plan VerifyOutcome) (s u : S)
     → IsRemainingPlan runs (tries by ssh signature signed [] last) s entire u
     → IsRemainingPlan runs (rest_plan by ssh signature signed last) s entire u
 unfolding tries
@@ -91,20 +91,20 @@ drop_eq_item_cons ps k item below is = rw (add-one) (drop-cons ps k item below �
 -- a loop over the principals is at one of them, and the calls from there on remain of an entire plan
 module _ {S : Type 0} (runs : S → CallView → Answer → S → Type 0) (by : ProgramView) (ssh : SshView) (signature signed : List ℕ) (ps : List BString)
     (k : ℕ)
-    (item : BString) (last : Option OutputView) (entire : Plan Verified) (s u : S) (below : k < length ps) (is : item ≡ get_or ps k item)
+    (item : BString) (last : Option OutputView) (entire : Plan VerifyOutcome) (s u : S) (below : k < length ps) (is : item ≡ get_or ps k item)
     (remaining : IsRemainingPlan runs (tries by ssh signature signed (map bstring_bytes (drop k ps)) last) s entire u) where
   opened : IsRemainingPlan runs (tries by ssh signature signed (bstring_bytes item ∷ map bstring_bytes (drop (k + 1) ps)) last) s entire u
   opened = subst (λ (xs : List BString). IsRemainingPlan runs (tries by ssh signature signed (map bstring_bytes xs) last) s entire u)
       (drop_eq_item_cons ps k item below is) remaining
 
   -- the result of a call without output is one of the entire plan
-  pub item_failed : (outcome : Option Verified) (t : S) → IsCarriedOut runs (call_alone (principal_call by ssh signature signed (bstring_bytes item)))
+  pub item_failed : (outcome : Option VerifyOutcome) (t : S) → IsCarriedOut runs (call_alone (principal_call by ssh signature signed (bstring_bytes item)))
       s outcome
       t → IsCarriedOut runs entire u outcome t
   item_failed = tries_failed runs by ssh signature signed (bstring_bytes item) (map bstring_bytes (drop (k + 1) ps)) last entire s u opened
 
   -- the report of an accepted principal is the outcome of the entire plan
-  pub item_accepted : (it : OutputView) (m : S) (outcome : Verified) → runs s (principal_call by ssh signature signed (bstring_bytes item)) (ran it) m
+  pub item_accepted : (it : OutputView) (m : S) (outcome : VerifyOutcome) → runs s (principal_call by ssh signature signed (bstring_bytes item)) (ran it) m
       → accepts it ≡ true
       → outcome ≡ ssh_verified by it.success trust.Fully (Some (bstring_bytes item)) it → IsCarriedOut runs entire u (Some outcome) m
   item_accepted it m outcome run yes_so same =
@@ -128,7 +128,7 @@ module _ {S : Type 0} (runs : S → CallView → Answer → S → Type 0) (by : 
 -- after the last principal, the plan without an accepted one remains of the entire plan
 pub remaining_plan_at_end : {S : Type 0} (runs : S → CallView → Answer → S → Type 0) (by : ProgramView) (ssh : SshView) (signature signed : List ℕ)
     (ps : List BString)
-    (k : ℕ) (last : Option OutputView) (entire : Plan Verified) (s u : S)
+    (k : ℕ) (last : Option OutputView) (entire : Plan VerifyOutcome) (s u : S)
     → length ps ≤ k → IsRemainingPlan runs (tries by ssh signature signed (map bstring_bytes (drop k ps)) last) s entire u
     → IsRemainingPlan runs (rest_plan by ssh signature signed last) s entire u
 remaining_plan_at_end runs by ssh signature signed ps k last entire s u past remaining =

@@ -32,11 +32,11 @@ use Rattle.gixobj_hash.specs.ByteStrings.{is_filled, trimmed}
 
 -- an outcome of verifying: a report; no known marker; the formats of program and signature, which differ; a program
 -- that didn't run to its end
-pub data Verified : Type 0 where
-  reported : OutcomeView → Verified
-  unsupported : Verified
-  mismatch : Format → Format → Verified
-  not_run : Failure → Verified
+pub data VerifyOutcome : Type 0 where
+  reported : OutcomeView → VerifyOutcome
+  unsupported : VerifyOutcome
+  mismatch : Format → Format → VerifyOutcome
+  not_run : Failure → VerifyOutcome
 
 -- the format of the marker with which the signature begins, or none without a marker
 abbrev pub IsFormatOf : List ℕ → Option Format → Type 0
@@ -44,7 +44,7 @@ IsFormatOf signature (Some format) = BeginsWithMarker format signature
 IsFormatOf signature None = BeginsWithNoMarker signature
 
 -- the rest of the plan after an answer, chosen by its output
-abbrev pub on_output : Answer → (OutputView → Plan Verified) → Plan Verified
+abbrev pub on_output : Answer → (OutputView → Plan VerifyOutcome) → Plan VerifyOutcome
 on_output (ran it) next = next it
 on_output (failed why) next = done (not_run why)
 on_output no_memory next = no_more
@@ -52,11 +52,11 @@ on_output no_memory next = no_more
 -- ---- OpenPGP and X.509: one call
 
 -- the outcome of an OpenPGP or X.509 program's output: its report, evaluated by the minimum trust
-abbrev pub gpg_verified : Format → ProgramView → OutputView → Verified
+abbrev pub gpg_verified : Format → ProgramView → OutputView → VerifyOutcome
 gpg_verified format by it = reported (evaluated it.success by.minimum (gpg_report format it.stderr it.stdout))
 
 -- the plan of an OpenPGP or X.509 program: this call
-abbrev pub gpg_verify_plan : Format → ProgramView → CallView → Plan Verified
+abbrev pub gpg_verify_plan : Format → ProgramView → CallView → Plan VerifyOutcome
 gpg_verify_plan format by call = run_then call (λ answer. on_output answer (λ it. done (gpg_verified format by it)))
 
 -- ---- SSH: a call for the principals, and then others
@@ -74,7 +74,7 @@ abbrev pub human : OutputView → List ℕ
 human it = it.stdout ++ it.stderr
 
 -- the outcome of an SSH program's output with this success, trust and signer, evaluated by the minimum trust
-abbrev pub ssh_verified : ProgramView → Bool → TrustLevel → Option (List ℕ) → OutputView → Verified
+abbrev pub ssh_verified : ProgramView → Bool → TrustLevel → Option (List ℕ) → OutputView → VerifyOutcome
 ssh_verified by success trusted signer it =
     reported (evaluated success by.minimum (ssh_report (human it) signer trusted))
 
@@ -84,14 +84,14 @@ accepts it = it.success && starts_with nat_eq it.stdout (codes "Good")
 
 -- the rest without an accepted principal: the last call for one is reported, without a signer. If none was made, the
 -- check for any key is reported, and it counts as unsuccessful
-abbrev pub rest_plan : ProgramView → SshView → List ℕ → List ℕ → Option OutputView → Plan Verified
+abbrev pub rest_plan : ProgramView → SshView → List ℕ → List ℕ → Option OutputView → Plan VerifyOutcome
 rest_plan by ssh signature signed (Some last) = done (ssh_verified by last.success trust.Fully None last)
 rest_plan by ssh signature signed None =
     run_then (novalidate_call by ssh signature signed) (λ answer. on_output answer (λ it.
     done (ssh_verified by false trust.Undefined None it)))
 
 -- a call for each principal, up to the first that is accepted
-unfoldable pub tries : ProgramView → SshView → List ℕ → List ℕ → List (List ℕ) → Option OutputView → Plan Verified
+unfoldable pub tries : ProgramView → SshView → List ℕ → List ℕ → List (List ℕ) → Option OutputView → Plan VerifyOutcome
 tries by ssh signature signed [] last = rest_plan by ssh signature signed last
 tries by ssh signature signed (principal ∷ principals) last =
     run_then (principal_call by ssh signature signed principal) (λ answer. on_output answer (λ it.
@@ -99,7 +99,7 @@ tries by ssh signature signed (principal ∷ principals) last =
     else tries by ssh signature signed principals (Some it)))
 
 -- the plan of an SSH program: the principals are listed and then tried. There are none if that call doesn't succeed
-abbrev pub ssh_verify_plan : ProgramView → SshView → List ℕ → List ℕ → Plan Verified
+abbrev pub ssh_verify_plan : ProgramView → SshView → List ℕ → List ℕ → Plan VerifyOutcome
 ssh_verify_plan by ssh signature signed =
     run_then (principals_call by ssh signature) (λ answer. on_output answer (λ it.
     tries by ssh signature signed (if it.success then principals_in it.stdout else []) None))
@@ -107,7 +107,7 @@ ssh_verify_plan by ssh signature signed =
 -- ---- all formats
 
 -- the plan of verification: no call without a marker, and none if the marker isn't of the program's format
-abbrev pub verify_plan : VerifyOptionsView → List ℕ → List ℕ → Option Format → Plan Verified
+abbrev pub verify_plan : VerifyOptionsView → List ℕ → List ℕ → Option Format → Plan VerifyOutcome
 verify_plan it signature signed None = done unsupported
 verify_plan (by_open_pgp by) signature signed (Some format.OpenPgp) =
     gpg_verify_plan format.OpenPgp by (open_pgp_call by signature signed)
@@ -121,7 +121,7 @@ verify_plan (by_ssh by ssh) signature signed (Some other) = done (mismatch forma
 -- ---- results of calls
 
 -- the outcome that a result reports, or none if memory ran out
-abbrev pub verify_view : Result Outcome Error → Option Verified
+abbrev pub verify_view : Result Outcome Error → Option VerifyOutcome
 verify_view (Ok it) = Some (reported (outcome_view it))
 verify_view (Err verify.UnsupportedFormat) = Some unsupported
 verify_view (Err (verify.FormatMismatch program signature)) = Some (mismatch program signature)
@@ -132,7 +132,8 @@ verify_view (Err (verify.CommitTime why)) = Some (not_run (no_time (bstring_byte
 verify_view (Err verify.OutOfMemory) = None
 
 -- the result is that of this plan between these states of the runner; if memory ran out, a prefix of its calls was made
-abbrev pub IsOutcomeOf : {S : Type 0} → (S → CallView → Answer → S → Type 0) → Plan Verified → S → Result Outcome Error
+abbrev pub IsOutcomeOf : {S : Type 0} → (S → CallView → Answer → S → Type 0) → Plan VerifyOutcome → S
+    → Result Outcome Error
     → S → Type 0
 IsOutcomeOf runs plan old result new = IsCarriedOut runs plan old (verify_view result) new
 
@@ -157,7 +158,7 @@ failed_run (run.CommitTime why) = verify.CommitTime why
 failed_run run.OutOfMemory = verify.OutOfMemory
 
 -- the outcome that an error reports, or none if memory ran out
-abbrev pub error_view : Error → Option Verified
+abbrev pub error_view : Error → Option VerifyOutcome
 error_view error = verify_view (Err error)
 
 -- the runner made this call and returned this output; or the error is one of the plan that makes this call and ends

@@ -24,8 +24,8 @@ abbrev pub IsAtEntry : Kind → List ℕ → TreeRefIter → Type 0
 IsAtEntry kind content reader = tree_reader_state reader ≡ record { kind = kind; state = tt; bytes = content }
 
 -- at most as many entries remain as bytes remain
-abbrev pub remaining_entries : TreeRefIter → Count
-remaining_entries reader = at_most (length (remaining_tree_bytes reader))
+abbrev pub remaining_entry_count : TreeRefIter → Count
+remaining_entry_count reader = at_most (length (remaining_tree_bytes reader))
 
 -- no entry allocates
 abbrev pub NoEntryAllocates : Kind → ⊤ → List ℕ → Type 0

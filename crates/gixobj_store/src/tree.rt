@@ -1,6 +1,6 @@
 //! Iteration over the entries of an encoded tree (gitdatamodel, "trees").
 ghost use Rattle.std.specs.Prelude.{◌≡◌, ◌-◌, [], IfErr, IfOk, length, map};
-ghost use Rattle.gixobj_store.specs.EntrySteps.{NextEntry, IsAtEntry, IsTail, remaining_tree_bytes, remaining_entries};
+ghost use Rattle.gixobj_store.specs.EntrySteps.{NextEntry, IsAtEntry, IsTail, remaining_tree_bytes, remaining_entry_count};
 ghost use Rattle.gixobj_tree.specs.TreeDecoding.{DecodesToTree, IsTreeDecodeError};
 ghost use Rattle.gixobj_tree.specs.TreeViews.{entry_view};
 
@@ -103,7 +103,7 @@ impl<'a> Iterator for TreeRefIter<'a> {
 
     ghost next_gives = { NextEntry };
 
-    ghost remaining = { remaining_entries };
+    ghost remaining = { remaining_entry_count };
 
     fn next(&mut self) -> Option<Result<EntryRef<'a>, Error>> {
         if self.bytes.is_empty() {

@@ -16,7 +16,7 @@ ghost use Rattle.gixobj_files.specs.Emission.{EmitsSome};
 ghost use Rattle.gixobj_files.specs.Bases.{opened_bases};
 ghost use Rattle.gixobj_files.specs.Opening.{IsOpened, in_path};
 ghost use Rattle.gixobj_files.specs.State.{open_bases, open_dirs};
-ghost use Rattle.gixobj_files.specs.Unopened.{in_directory};
+ghost use Rattle.gixobj_files.specs.Unopened.{with_empty_name};
 ghost use Rattle.gixobj_store.specs.Stores.{store_model};
 ghost use Rattle.gixobj_mode.specs.Mode.{mode_of_kind};
 
@@ -33,7 +33,7 @@ use gixobj_tree::tree::{Entry, EntryKind};
 use std::alloc::AllocError;
 use std::marker::Model;
 
-/// A zero-sized field beside the reference to the editor. It makes a cursor a value of its own: only then does the
+/// A zero-sized field next to the reference to the editor. It makes a cursor a value of its own: only then does the
 /// checker cover the result of a call such as [`Cursor::upsert`], which returns its receiver.
 #[derive(Drop)]
 struct LentBack {}
@@ -143,7 +143,7 @@ impl<S: Find> Editor<S> {
         ensures ensured { OnOk result (OfTrees (S.objects self.old.store)
             (λ trees. IsEnsured trees self.old (cursor_path (names_of path.now)) self.new)) }
         ensures after_error { IfErr result (IsFailedEditIn (store_model S.objects S.may_fail)
-            self.old (in_directory (cursor_path (names_of path.now))) self.new) }
+            self.old (with_empty_name (cursor_path (names_of path.now))) self.new) }
         ensures error { IfErr result (IsErrorIn (store_model S.objects S.may_fail) self.old
             IsCursorError (cursor_path (names_of path.now))) }
         ensures unchanged { IfErr result (λ error. IsNameError error → self.new ≡ self.old) }
@@ -158,7 +158,7 @@ impl<S: Find> Editor<S> {
         ensures prefix { OnOk result (self.new.prefix ≡ names_of path.now) }
         ensures is_open { OnOk result (open_dirs self.new self.new.prefix ≢ None) }
         ensures after_error { IfErr result (IsFailedEditIn (store_model S.objects S.may_fail)
-            self.old (in_directory (names_of path.now)) self.new) }
+            self.old (with_empty_name (names_of path.now)) self.new) }
         ensures error { IfErr result (IsErrorIn (store_model S.objects S.may_fail) self.old
             IsCursorError (names_of path.now)) }
         ensures unchanged { IfErr result (λ error. IsNameError error → self.new ≡ self.old) }

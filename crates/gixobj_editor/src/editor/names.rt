@@ -4,7 +4,7 @@ ghost use Rattle.bstr.specs.Owned.{bstring_bytes};
 ghost use Rattle.gixobj_tree.specs.WellFormed.{IsEntryName};
 ghost use Rattle.gixobj_directories.specs.Calls.{AreNames, names_of};
 ghost use Rattle.gixobj_editor.specs.Cursors.{from_root};
-ghost use Rattle.gixobj_editor.specs.Upserts.{SplitsAtFirstInvalid, IsEntryNameError, IsFirstNameError, StartsInvalid, directory_of};
+ghost use Rattle.gixobj_editor.specs.Upserts.{SplitsForRemoval, IsEntryNameError, IsFirstNameError, StartsInvalid, directory_of};
 
 use crate::editor::error::Error;
 use bstr::BString;
@@ -13,8 +13,8 @@ use std::alloc::{AllocError, Global};
 
 /// Splits a path into the directories that a removal may open, by valid names, and the names from the first
 /// invalid one on.
-pub(crate) fn split_at_first_invalid(path: &[BString]) -> (&[BString], &[BString])
-    ensures { SplitsAtFirstInvalid (names_of path.now) (names_of result.0.now)
+pub(crate) fn split_for_removal(path: &[BString]) -> (&[BString], &[BString])
+    ensures { SplitsForRemoval (names_of path.now) (names_of result.0.now)
         (names_of result.1.now) }
 {
     let (names, rejected) = path.split_at(count_names(path));

@@ -18,7 +18,7 @@ ghost use Rattle.gixobj_editor.specs.FailedEdits.{OpensInPart};
 ghost use Rattle.gixobj_editor.specs.Removals.{ValidatesUpTo, IsLeafDirectoryError, IsRemovalErrorUpTo};
 
 use crate::editor::error::Error;
-use crate::editor::names::{split_at_first_invalid, validate_names};
+use crate::editor::names::{split_for_removal, validate_names};
 use bstr::BString;
 use gixobj_directories::opening::{NotLookedUp, open_along};
 use gixobj_open::open::Open;
@@ -52,7 +52,7 @@ pub(crate) fn open_for_removal<S: Find>(
     ensures bases { (at : Path) → bases_of root.new at
         ≡ opened_bases (dirs_of root.old) (dirs_of root.new) (bases_of root.old) at }
 {
-    let (directory, rejected) = split_at_first_invalid(path);
+    let (directory, rejected) = split_for_removal(path);
     open_along(alloc, root, directory, not_looked_up, store, lookups)?;
     check_reached(root, directory, rejected)
 }

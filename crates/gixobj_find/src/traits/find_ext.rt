@@ -7,7 +7,7 @@ ghost use Rattle.gixobj_store.specs.Stores.{Names, stored};
 ghost use Rattle.gixobj_hash.specs.Hash.{IsIdHex};
 ghost use Rattle.gixobj_hash.specs.Hash.Borrowed.{borrowed_id};
 ghost use Rattle.gixobj_hash.specs.declared.kind.Kind.TheVariants as object;
-ghost use Rattle.gixobj_find.specs.Existing.{IsEmptyId, IsMissing, FailsToRead, NamesEncoding, IsExistingError, IsFindObjectError, IsReaderError};
+ghost use Rattle.gixobj_find.specs.Existing.{IsEmptyId, IsContentLookupError, IsDecodingLookupError, NamesEncoding, IsExistingError, IsFindObjectError, IsReaderError};
 ghost use Rattle.gixobj_line.specs.Commit.{DecodesToCommit};
 ghost use Rattle.gixobj_find.specs.declared.find.existing_iter.Error.TheVariants as iter_error;
 ghost use Rattle.gixobj_keep.specs.ExistingTrees.{NamesSuch};
@@ -321,7 +321,7 @@ fn decoded<'a, S: Find>(
     ensures found { IfOk result (NamesEncoding (S.objects store.now) (borrowed_id id.entry)) }
     ensures borrowed { IfOk result BorrowsHeaderLines }
     ensures has_ids { IfOk result HasObjectIds }
-    ensures error { IfErr result (FailsToRead (S.objects store.now) (S.may_fail store.now)
+    ensures error { IfErr result (IsDecodingLookupError (S.objects store.now) (S.may_fail store.now)
         (borrowed_id id.entry)) }
 {
     let oid = id.to_owned();
@@ -342,7 +342,7 @@ fn undecoded<'a, S: Find>(
 ) -> Result<Data<'a>, existing_iter::Error>
     ensures found { IfOk result (λ it. Names (S.objects store.now) (borrowed_id id.entry)
         (stored it)) }
-    ensures error { IfErr result (IsMissing (S.objects store.now) (S.may_fail store.now)
+    ensures error { IfErr result (IsContentLookupError (S.objects store.now) (S.may_fail store.now)
         (borrowed_id id.entry)) }
 {
     match store.try_find(id, buffer)? {

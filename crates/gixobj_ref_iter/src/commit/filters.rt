@@ -45,11 +45,11 @@ impl<'a> CommitRefIter<'a> {
 impl<'a> Iterator for ParentIds<'a> {
     type Item = ObjectId;
 
-    ghost use Rattle.gixobj_ref_iter.specs.TokenFilters.{NextParent, remaining_parent_ids};
+    ghost use Rattle.gixobj_ref_iter.specs.TokenFilters.{NextParent, remaining_parent_id_count};
 
     ghost next_gives = { NextParent };
 
-    ghost remaining = { remaining_parent_ids };
+    ghost remaining = { remaining_parent_id_count };
 
     #[tactic(auto, using(crate::proofs::CommitRuns::searches_nil, crate::proofs::CommitRuns::reads_first_token_of_search))]
     fn next(&mut self) -> Option<ObjectId> {
@@ -69,11 +69,11 @@ impl<'a> Iterator for ParentIds<'a> {
 impl<'a> Iterator for Signatures<'a> {
     type Item = SignatureRef<'a>;
 
-    ghost use Rattle.gixobj_ref_iter.specs.TokenFilters.{NextActor, remaining_actors};
+    ghost use Rattle.gixobj_ref_iter.specs.TokenFilters.{NextActor, remaining_actor_count};
 
     ghost next_gives = { NextActor };
 
-    ghost remaining = { remaining_actors };
+    ghost remaining = { remaining_actor_count };
 
     #[tactic(auto, using(crate::proofs::CommitRuns::searches_nil, crate::proofs::CommitRuns::reads_first_token_of_search))]
     fn next(&mut self) -> Option<SignatureRef<'a>> {

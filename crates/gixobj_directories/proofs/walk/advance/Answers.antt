@@ -6,7 +6,7 @@ use Rattle.std.specs.Option.{option_copied}
 use Rattle.std.proofs.lemmas.List.{drop_all}
 use Rattle.gixobj_tree.specs.Entries.{EntryView}
 use Rattle.gixobj_files.specs.Emission.{entry_unless_null}
-use Rattle.gixobj_directories.specs.Frames.{EmitsNext, HasCome, Waits, held_entries}
+use Rattle.gixobj_directories.specs.Frames.{EmitsNext, HasEmitted, Waits, held_entries}
 use Rattle.gixobj_directories.specs.TakenTrees.{child_leaf_trees}
 use Rattle.gixobj_open.specs.Nested.{base_side, entries_side}
 use Rattle.gixobj_directories.specs.WriteErrors.{EmitsEntry, IsWriteError, child_side}
@@ -25,7 +25,7 @@ returns-then-frame-entries-clause-emitted g c =
       adds_nil c.args.pairs.now.items,
       refl,
       λ ps ts count come. (
-        subst (λ x. HasCome f x (ts ++ []) count) (sym (append-nil ps)) (subst (λ x. HasCome f ps x count) (sym (append-nil ts)) come),
+        subst (λ x. HasEmitted f x (ts ++ []) count) (sym (append-nil ps)) (subst (λ x. HasEmitted f ps x count) (sym (append-nil ts)) come),
         drop_all f.next (held_entries f.tree) high,
       ),
     )
@@ -117,7 +117,7 @@ returns-clause-emitted g c =
       ok.2,
       ok.3,
       λ ps ts count come. let same : count + 0 ≡ count = omega arith in
-          subst (λ k. HasCome h (ps ++ ok.0) (ts ++ child_leaf_trees next) k) same
+          subst (λ k. HasEmitted h (ps ++ ok.0) (ts ++ child_leaf_trees next) k) same
           (has_come_visited f e low is next r c.next_of.ensures.next c.next_of.ensures.following c.next_of.ensures.filled o ok.0
           (entry_unless_null e c.in-Id.id) 0 ok.1 kept.entries kept.shares_base ps ts count come),
     )

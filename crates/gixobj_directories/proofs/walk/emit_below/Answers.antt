@@ -5,7 +5,7 @@ use Rattle.std.specs.Prelude.{reverse}
 use Rattle.std.specs.Fn.{CalledAt}
 use Rattle.gixobj_files.specs.Emission.{EmitsBelow}
 use Rattle.gixobj_directories.specs.Calls.{IsStorable}
-use Rattle.gixobj_directories.specs.Frames.{HasCome, frame_weight}
+use Rattle.gixobj_directories.specs.Frames.{HasEmitted, frame_weight}
 use Rattle.gixobj_open.specs.Nested.{bases_of, dirs_of}
 use Rattle.gixobj_directories.specs.WriteErrors.{IsWriteError}
 use Rattle.gixobj_directories.specs.declared.frames.Frame.{Frame}
@@ -69,7 +69,7 @@ frames-preserved-in-Continue-branch-5 g c =
     let ok = (rw c.in-Begins.is at (c.in_ok-advance.ensures {u = tt}).emitted) in
     let begun = c.in_ok-begun-in-Begins.ensures {u = tt} in
     let waits = c.in_ok-wait-in-Begins.ensures {u = tt} in
-    let come = subst (λ x. HasCome x [] [] 0) (sym waits.begun) begun.come in record {
+    let come = subst (λ x. HasEmitted x [] [] 0) (sym waits.begun) begun.come in record {
       so = under_way_of_equal (sym (ap reverse waits.waits ∙ reverse_push c.frames.above.items c.advance.new.frame))
           (under_way_begun so c.advance.new.out c.advance.new.pairs.items c.advance.new.frame c.advance.ensures.node ok.0 ok.1 ok.2 ok.3
           c.in-Begins.inner ok.4 c.wait.new.frame (ap (λ (x : Frame). x.node.now) waits.begun ∙ begun.node) come);

@@ -1,12 +1,12 @@
 -- The frames so far are in the store.
 use Rattle.std.proofs.Common.{◌≡◌, length, List, ℕ}
-use Rattle.gixobj_edit.specs.Frames.{FrameComes, objects_of}
+use Rattle.gixobj_edit.specs.Frames.{NextFrame, objects_of}
 use Rattle.gixobj_fields.specs.Runs.{BeginsWithPieces}
 use Rattle.gixobj_keep.specs.Memory.{memory_objects}
 use Rattle.gixobj_edit.proofs.frames.store_of.Given as goal
 
 abbrev pub invariant-frames : goal.invariant-frames
-invariant-frames l = (contents : List (List ℕ)) × BeginsWithPieces FrameComes tt l.fn.bytes contents tt l.rest
+invariant-frames l = (contents : List (List ℕ)) × BeginsWithPieces NextFrame tt l.fn.bytes contents tt l.rest
     × (memory_objects l.store ≡ objects_of l.fn.hash contents)
 
 abbrev pub decreases-frames : goal.decreases-frames

@@ -7,7 +7,7 @@ use Rattle.gixobj_editor.specs.Cursors.{cursor_path}
 use Rattle.gixobj_editor.specs.Upserts.{IsNameError}
 use Rattle.gixobj_editor.specs.FailedEdits.{IsAfterFailedEdit}
 use Rattle.gixobj_files.specs.State.{State}
-use Rattle.gixobj_files.specs.Unopened.{in_directory}
+use Rattle.gixobj_files.specs.Unopened.{with_empty_name}
 use Rattle.gixobj_hash.specs.declared.hash.object_id.ObjectId.{ObjectId}
 use Rattle.gixobj_store.specs.Stores.{StoreModel}
 use Rattle.gixobj_tree.specs.Entries.{EntryView}
@@ -40,6 +40,6 @@ returns-in-Err g c =
     let pending = c.cursor_at.follows.lender-at-none in
     let rejected : OfTrees (g.S.Store.objects c.args.editor.now.store)
     (λ trees. IsAfterFailedEdit (record { objects = g.S.Store.objects; may_fail = g.S.Store.may_fail }) trees c.args.editor.now
-    (in_directory (cursor_path (names_of c.args.prefix.now))) c.in-Err.error pending)
+    (with_empty_name (cursor_path (names_of c.args.prefix.now))) c.in-Err.error pending)
     × (IsNameError c.in-Err.error → pending ≡ c.args.editor.now) = search rules in
     record { reply = inr (record { effect = rejected.0; cause = (c.in-Err.ensures {u = tt}).error }, rejected.1); causes = tt }

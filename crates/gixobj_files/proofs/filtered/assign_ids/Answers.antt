@@ -6,7 +6,7 @@ use Rattle.gixobj_tree.specs.Entries.{EntryView}
 use Rattle.gixobj_tree.specs.WellFormed.{EachLater}
 use Rattle.gixobj_files.specs.Editing.{non_null_entries}
 use Rattle.gixobj_files.specs.Files.{is_null}
-use Rattle.gixobj_files.specs.FilteredTrees.{IsFilteredTree, id_among, filtered_out}
+use Rattle.gixobj_files.specs.FilteredTrees.{IsFilteredTree, first_id_if_named, after_first_if_named}
 use Rattle.gixobj_files.specs.WrittenTrees.{with_id}
 use Rattle.gixobj_files.proofs.FilteredEntries.{AreFilled, filters_step}
 use Rattle.gixobj_files.proofs.filtered.assign_ids.Goals as goal
@@ -34,12 +34,13 @@ loop-entry-preserved c =
     let apart : EachLater differ (e ∷ drop (i + 1) es) = subst (EachLater differ) here so.apart in
     let go = filters_step e (drop (i + 1) es) pending apart.0 so.filled (subst (IsFilteredTree pending) here so.is_filtered) in
     let tail : drop (i + 1) (slice_set es i new) ≡ drop (i + 1) es = drop-set-lt (i + 1) es i new (omega arith) in
-    let made : new ≡ with_id e (id_among e.name pending) = c.assign_id-pending.ensures.id ∙ ap (λ (x : EntryView). with_id x (id_among x.name pending))
+    let made : new ≡ with_id e (first_id_if_named e.name pending) =
+      c.assign_id-pending.ensures.id ∙ ap (λ (x : EntryView). with_id x (first_id_if_named x.name pending))
     (sym c.entry-item.is) in
-    let on : after ≡ filtered_out e.name pending = c.assign_id-pending.ensures.remaining ∙ ap (λ (x : EntryView). filtered_out x.name pending)
+    let on : after ≡ after_first_if_named e.name pending = c.assign_id-pending.ensures.remaining ∙ ap (λ (x : EntryView). after_first_if_named x.name pending)
     (sym c.entry-item.is) in
     let one : non_null_entries (new ∷ []) ++ after ≡ pending = ap (λ (x : EntryView). non_null_entries (x ∷ []) ++ after) made
-    ∙ ap (λ xs. non_null_entries (with_id e (id_among e.name pending) ∷ []) ++ xs) on ∙ go.here in
+    ∙ ap (λ xs. non_null_entries (with_id e (first_id_if_named e.name pending) ∷ []) ++ xs) on ∙ go.here in
     record {
       done = ap (λ xs. non_null_entries xs ++ after) (take_more_set es i new low)
           ∙ ap (λ xs. xs ++ after) (filter-append (λ (x : EntryView). not (is_null x.id)) (take i es) (new ∷ []))
@@ -48,6 +49,6 @@ loop-entry-preserved c =
           ∙ so.done;
       apart = subst (EachLater differ) (sym tail) apart.1;
       is_filtered = subst (λ xs. IsFilteredTree xs (drop (i + 1) (slice_set es i new))) (sym on)
-          (subst (IsFilteredTree (filtered_out e.name pending)) (sym tail) go.is_filtered);
+          (subst (IsFilteredTree (after_first_if_named e.name pending)) (sym tail) go.is_filtered);
       filled = subst AreFilled (sym on) go.filled;
     }

@@ -18,7 +18,7 @@ use Rattle.gixobj_listings.proofs.PairSteps.{left_of_rest, merges_of_nothing, me
 use Rattle.gixobj_listings.proofs.Rooted.{if_err_weaken, if_ok_weaken}
 use Rattle.gixobj_listings.proofs.StoreChanges.{has_changes_at_equal, has_changes_at_files, has_changes_of_roots}
 use Rattle.gixobj_listings.specs.Changes.{AreChangesInOrder, ChangeView, IsChangeOfPairs, ListsChange, with_name_first}
-use Rattle.gixobj_listings.specs.Differences.{AloneIsRead, HasChangesAt, IsChangesError, pair_view}
+use Rattle.gixobj_listings.specs.Differences.{IsReadIfAlone, HasChangesAt, IsChangesError, pair_view}
 use Rattle.gixobj_listings.specs.Roots.{IsRoot}
 use Rattle.gixobj_listings.proofs.differences.+comparing.Goals as goal
 
@@ -193,7 +193,7 @@ opened_changes-loop-pair-preserved g t c =
       merged = (
         pairs ++ pair_view pair ∷ [],
         merges_snoc lefts rights left right pair next.first pairs now.merged.1,
-        all_by_recursion_append (AloneIsRead objects) pairs (pair_view pair ∷ []) now.merged.2 (c.in_ok-below.ensures.alone, tt),
+        all_by_recursion_append (IsReadIfAlone objects) pairs (pair_view pair ∷ []) now.merged.2 (c.in_ok-below.ensures.alone, tt),
         pairs_before_rest left right pair next.first now.left_order now.right_order pairs now.merged.3,
         subst (AllByRecursion (StartsInPair (pairs ++ pair_view pair ∷ []))) (sym added)
             (starts_in_pair_snoc pairs (pair_view pair) name next.name changes below now.merged.4 c.in_ok-below.ensures.paths),

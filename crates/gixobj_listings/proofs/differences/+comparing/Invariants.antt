@@ -8,7 +8,7 @@ use Rattle.gix_object.specs.Openings.{AreTreesOf}
 use Rattle.gix_object.specs.Tables.{AgreesWithStore}
 use Rattle.gix_object.specs.WellFormed.{EachLater}
 use Rattle.gixobj_listings.specs.Changes.{AreChangesInOrder, ChangeView, EntryPairView, HaveNames, IsChangeOfPairs, IsPairBefore, ListsChange, Merges}
-use Rattle.gixobj_listings.specs.Differences.{AloneIsRead}
+use Rattle.gixobj_listings.specs.Differences.{IsReadIfAlone}
 use Rattle.gixobj_listings.proofs.ChangesOfPairs.{StartsInPair}
 use Rattle.gixobj_listings.proofs.differences.+comparing.Given as goal
 
@@ -33,7 +33,7 @@ invariant-opened_changes-loop-pair g l = record {
   left_order : EachLater ComesBefore l.left;
   right_order : EachLater ComesBefore l.right;
   merged : (pairs : List EntryPairView) × ((more : List EntryPairView) → Merges l.left l.right more → Merges l.initial.left l.initial.right (pairs ++ more))
-      × AllByRecursion (AloneIsRead (g.S.Store.objects l.store)) pairs
+      × AllByRecursion (IsReadIfAlone (g.S.Store.objects l.store)) pairs
       × AllByRecursion (IsPairBefore (l.left ++ l.right)) pairs
       × AllByRecursion (StartsInPair pairs) l.changes.items
       × ((trees : Trees) → AreTreesOf (g.S.Store.objects l.store) trees → (T : Table) (n : ℕ) → AgreesWithStore T trees → l.depth ≤ n + 1

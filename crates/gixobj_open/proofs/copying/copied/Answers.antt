@@ -4,7 +4,7 @@ use Rattle.std.specs.Prelude.{reverse}
 use Rattle.std.proofs.lemmas.List.{reverse-append}
 use Rattle.bstr.specs.Owned.{bstring_bytes}
 use Rattle.gixobj_open.specs.Children.{remaining_list}
-use Rattle.gixobj_open.specs.Copies.{IsHalfCopied}
+use Rattle.gixobj_open.specs.Copies.{IsCopiedInPart}
 use Rattle.gixobj_open.specs.Nested.{parts}
 use Rattle.gixobj_open.specs.declared.copying.Copying.{Copying}
 use Rattle.gixobj_open.specs.declared.open.Child.{Child}
@@ -38,10 +38,10 @@ frames-preserved-in-Continue-branch-4 c =
           (sym (ap reverse waits.waits ∙ reverse-append c.frames.above.items (h ∷ []))) (
             so.0,
             so.1,
-            subst (λ n. IsHalfCopied h ((n, child.open) ∷ parts (remaining_list r)) so.0)
+            subst (λ n. IsCopiedInPart h ((n, child.open) ∷ parts (remaining_list r)) so.0)
                 (sym (ap (λ (x : Copying). bstring_bytes x.name) waits.begun ∙ ap bstring_bytes begun.name ∙ named)) half,
           ),
-      subst (λ (x : Copying). IsHalfCopied x (parts (remaining_list x.remaining)) child.open) (sym waits.begun) begun.half,
+      subst (λ (x : Copying). IsCopiedInPart x (parts (remaining_list x.remaining)) child.open) (sym waits.begun) begun.half,
     )
 
 pub frames-smaller-in-Continue-branch-4 : goal.frames-smaller-in-Continue-branch-4

@@ -5,7 +5,7 @@ use Rattle.std.proofs.lemmas.List.Elements.{recursion_from_All}
 use Rattle.gixobj_tree.specs.WellFormed.{IsEntryName}
 use Rattle.gixobj_files.specs.Edits.{IsNoTree, Opens, ensured_dirs}
 use Rattle.gixobj_files.specs.State.{State, open_dirs}
-use Rattle.gixobj_files.specs.Unopened.{in_directory}
+use Rattle.gixobj_files.specs.Unopened.{with_empty_name}
 use Rattle.gixobj_directories.specs.Calls.{names_of}
 use Rattle.gixobj_open.specs.Nested.{Opened, dirs_of}
 use Rattle.gixobj_directories.specs.Openings.{AreTreesOf, IsOpenErrorAt}
@@ -35,7 +35,7 @@ returns-in_err-validate_names-clause-after_error g c =
     let s = c.self.inside in
     let bad = (c.in_err-validate_names.ensures {u = tt}).error in
     unchanged_at s.store s.object_hash (names_of s.prefix.items) trees (record { objects = g.S.Store.objects; may_fail = g.S.Store.may_fail }) s.root
-    s.lookups c.args.self.now c.self.view_is (in_directory (names_of c.args.path.now)) error
+    s.lookups c.args.self.now c.self.view_is (with_empty_name (names_of c.args.path.now)) error
     (no_lookup_of_name (names_of c.args.path.now) error (subst (IsFirstNameError (names_of c.args.path.now)) (sym is) bad)) c.self.invariant)
 
 pub returns-in_err-open_along-clause-after_error : goal.returns-in_err-open_along-clause-after_error
@@ -47,9 +47,9 @@ returns-in_err-open_along-clause-after_error g c =
     let stored = ap (λ (o : State _). o.store) c.self.view_is in
     let bad = (c.in_err-open_along.ensures {u = tt}).stopped_opening trees (subst (λ o. AreTreesOf (g.S.Store.objects o) trees) (sym stored) fits) in
     let after = halted_so s.store s.object_hash (names_of s.prefix.items) trees model s.root c.open_along.new.node s.lookups c.open_along.new.lookups
-    c.args.self.now c.self.view_is (in_directory path) path [] refl bad.0 bad.1 bad.2 bad.3 c.in_err-open_along.field-0.0 bad.4 c.self.invariant
+    c.args.self.now c.self.view_is (with_empty_name path) path [] refl bad.0 bad.1 bad.2 bad.3 c.in_err-open_along.field-0.0 bad.4 c.self.invariant
     c.open_along.ensures.bases in
-    subst (λ (e : Error). IsAfterFailedEdit model trees c.args.self.now (in_directory path) e
+    subst (λ (e : Error). IsAfterFailedEdit model trees c.args.self.now (with_empty_name path) e
     (state_of s.store s.object_hash (names_of s.prefix.items) c.open_along.new.node c.open_along.new.lookups)) (sym gives) after)
 
 pub returns-in_err-open_along-clause-error : goal.returns-in_err-open_along-clause-error
@@ -76,7 +76,7 @@ returns-in_err-prefix-clause-after_error g c =
     let stored = ap (λ (o : State _). o.store) c.self.view_is in
     let ok = (c.in_ok-open_along.ensures {u = tt}).opened trees (subst (λ o. AreTreesOf (g.S.Store.objects o) trees) (sym stored) fits) in
     opened_so s.store s.object_hash (names_of s.prefix.items) trees (record { objects = g.S.Store.objects; may_fail = g.S.Store.may_fail })
-    not_looked_up.Opened s.root c.open_along.new.node s.lookups c.open_along.new.lookups c.args.self.now c.self.view_is (in_directory path) path
+    not_looked_up.Opened s.root c.open_along.new.node s.lookups c.open_along.new.lookups c.args.self.now c.self.view_is (with_empty_name path) path
     [] refl ok.0 ok.1 ok.2
     error (subst (λ (e : Error). ¬ IsLookupError e) (sym gives) (λ it. it)) c.self.invariant c.open_along.ensures.bases)
 
@@ -99,7 +99,7 @@ returns-in_err-ensure_directory-clause-after_error g c =
     let ok = (c.in_ok-open_along.ensures {u = tt}).opened trees (subst (λ o. AreTreesOf (g.S.Store.objects o) trees) (sym stored) fits) in
     let same : c.ensure_directory.new.self ≡ c.open_along.new.node = (c.in_err-ensure_directory.ensures {u = tt}).unchanged in
     opened_so s.store s.object_hash (names_of s.prefix.items) trees (record { objects = g.S.Store.objects; may_fail = g.S.Store.may_fail })
-    not_looked_up.Opened s.root c.ensure_directory.new.self s.lookups c.open_along.new.lookups c.args.self.now c.self.view_is (in_directory path) path
+    not_looked_up.Opened s.root c.ensure_directory.new.self s.lookups c.open_along.new.lookups c.args.self.now c.self.view_is (with_empty_name path) path
     [] refl ok.0
     (subst (λ (ds : Opened). Opens IsNoTree trees path (dirs_of s.root) (dirs_of ds) ok.0) (sym same) ok.1) ok.2
     error (subst (λ (e : Error). ¬ IsLookupError e) (sym gives) (λ it. it)) c.self.invariant

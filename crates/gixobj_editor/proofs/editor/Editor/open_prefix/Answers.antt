@@ -3,7 +3,7 @@ use Rattle.std.proofs.Common.{◌≡◌, subst}
 use Rattle.std.specs.Prelude.{IfErr, OnOk}
 use Rattle.gixobj_files.specs.Files.{Path, Trees}
 use Rattle.gixobj_files.specs.State.{open_dirs}
-use Rattle.gixobj_files.specs.Unopened.{in_directory}
+use Rattle.gixobj_files.specs.Unopened.{with_empty_name}
 use Rattle.gixobj_directories.specs.Openings.{AreTreesOf}
 use Rattle.gixobj_editor.specs.Cursors.{IsEnsured, IsCursorError}
 use Rattle.gixobj_editor.specs.FailedEdits.{IsAfterFailedEdit}
@@ -21,7 +21,7 @@ returns-clause-ensured g c =
 pub returns-clause-after_error : goal.returns-clause-after_error
 returns-clause-after_error g c =
     subst (λ (p : Path). IfErr c.ensure_directory.result (λ error. (trees : Trees) → AreTreesOf (g.S.Store.objects c.args.self.now.store) trees
-    → IsAfterFailedEdit (record { objects = g.S.Store.objects; may_fail = g.S.Store.may_fail }) trees c.args.self.now (in_directory p) error
+    → IsAfterFailedEdit (record { objects = g.S.Store.objects; may_fail = g.S.Store.may_fail }) trees c.args.self.now (with_empty_name p) error
     c.ensure_directory.new.self)) c.cursor_path_of.ensures
     c.ensure_directory.ensures.after_error
 

@@ -88,12 +88,12 @@ impl LineCounts {
         if self.trailers > 0 && self.others == 0 {
             return true;
         }
-        self.recognised && is_within(self.others, self.trailers)
+        self.recognised && is_at_most_triple(self.others, self.trailers)
     }
 }
 
 /// Returns whether the number is at most three times the other.
-fn is_within(number: usize, other: usize) -> bool
+fn is_at_most_triple(number: usize, other: usize) -> bool
     ensures { IsTrue result ↔ (number ≤ 3 * other) }
 {
     let (third, rest) = (number / 3, number % 3);
