@@ -186,7 +186,7 @@ impl<S: Keep + KeepCommit> Importer<S> {
         ensures cause { IfErr result (λ error. HasStepCause (store_model S.objects S.may_fail)
             S.keep_errors S.keep_commit_errors self.old step.now error self.new) }
         ensures encoding { IfErr result (HasEncodingCause self.old.hash) }
-        ensures adds { AddsByDigest (S.objects self.old.editor.store)
+        ensures added { AddsByDigest (S.objects self.old.editor.store)
             (S.objects self.new.editor.store) }
         // The files, in each table that agrees with the store and with the emitted trees.
         ensures files { IfOk result (λ it. (T : Table) (n : ℕ)
@@ -264,7 +264,7 @@ pub fn import_all<S: Keep + KeepCommit>(
     ensures cause { IfErr result (λ it. HasImportCause (store_model S.objects S.may_fail) S.keep_errors
         S.keep_commit_errors importer.old steps.now it.done.items it.error importer.new) }
     ensures encoding { IfErr result (λ it. HasEncodingCause importer.old.hash it.error) }
-    ensures adds { AddsByDigest (S.objects importer.old.editor.store)
+    ensures added { AddsByDigest (S.objects importer.old.editor.store)
         (S.objects importer.new.editor.store) }
     // The store has its former objects, with the trees and commits of the imported steps inserted in order.
     ensures stored { IfOk result (λ all. S.objects importer.new.editor.store
