@@ -31,7 +31,8 @@ pub fn trusted_header_signature<S: Sink>(
     ensures encodable { OnOk result (IsLegal actor.now) }
     ensures error { IfErr result (IsWritingError (IsActorFieldError name.now actor.now)
         (S.view sink.old) (S.view sink.new) (encode_field name.now (encode_owned_actor actor.now))) }
-    ensures room { IfErr result (LacksRoom (IsActorFieldError name.now actor.now) (S.view sink.old)) }
+    ensures room { IfErr result (LacksRoom (IsActorFieldError name.now actor.now)
+        (S.view sink.old)) }
     ensures same_loan { S.loan sink.new ≡ S.loan sink.old }
 {
     write_parts(&[name, b" "], sink)?;

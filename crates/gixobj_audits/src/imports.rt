@@ -150,7 +150,8 @@ fn entry_in<S: Find>(
     root: ObjectId,
     path: &[BString],
 ) -> Result<Option<Entry>, LookupError>
-    ensures found { IfOk result (IsFoundIn (S.objects store.now) root (map bstring_bytes path.now)) }
+    ensures found { IfOk result (IsFoundIn (S.objects store.now) root
+        (map bstring_bytes path.now)) }
     ensures error { IfErr result (IsFoundInError (S.objects store.now) (S.may_fail store.now) root
         (map bstring_bytes path.now)) }
 {

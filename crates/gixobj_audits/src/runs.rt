@@ -104,7 +104,8 @@ pub fn changes_of_run<S: Keep + Drop, E: Drop, F: Fn(&Tree) -> Result<ObjectId, 
     ensures changed { IfOk result (IsChangedByRun (store_model S.objects S.may_fail)
         (FnReturnsAt F.Fn out) store root commands.items depth) }
     ensures ordered { IfOk result (λ it. AreChangesInOrder it.changes.items) }
-    ensures error { IfErr result (IsRunError (store_model S.objects S.may_fail) (FnReturnsAt F.Fn out)
+    ensures error { IfErr result (IsRunError (store_model S.objects S.may_fail)
+        (FnReturnsAt F.Fn out)
         store root commands.items depth) }
 {
     store_has_tree_map();

@@ -40,7 +40,8 @@ fn write_header(
     out: &mut [u8],
     out_len: &mut usize,
 ) -> u32
-    ensures { IsCommitHeaderCall (Some hash) commit.now name.now out.old out.new out_len.old out_len.new
+    ensures { IsCommitHeaderCall (Some hash) commit.now name.now out.old out.new
+        out_len.old out_len.new
         result }
 {
     match find_header(alloc, commit, hash, name) {

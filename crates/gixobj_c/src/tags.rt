@@ -108,7 +108,8 @@ fn field_span(tag: &[u8], offset: usize, name: &[u8], rest: &[u8]) -> Span
 /// Returns the token of a body with this message and this signature, which are at the end of the tag.
 fn body_token(tag: &[u8], message: BStr<'_>, signature: Option<BStr<'_>>) -> TagToken
     requires { HasBodyParts tag.now (bstr_bytes message) (bytes_if_some signature) }
-    ensures { IsTokenOfBody tag.now (bstr_bytes message.entry) (bytes_if_some signature.entry) result }
+    ensures { IsTokenOfBody tag.now (bstr_bytes message.entry)
+        (bytes_if_some signature.entry) result }
 {
     let Some(signature) = signature else {
         return with_value(6, span_of(tag, message, 0));

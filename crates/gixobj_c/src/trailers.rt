@@ -48,7 +48,8 @@ fn trailer_at<'a>(
     message: BStr<'a>,
     index: usize,
 ) -> Result<Option<TrailerRef<'a>>, OutOfMemory>
-    ensures found { IfOk result (λ found. MatchOption found (HasNoTrailerAt (bstr_bytes message.entry) index)
+    ensures found { IfOk result (λ found. MatchOption found
+        (HasNoTrailerAt (bstr_bytes message.entry) index)
         (λ it. HasTrailerAt (bstr_bytes message.entry) index (trailer_view it))) }
     ensures error { OnErr result (NeedsTrailerAllocation (bstr_bytes message.entry) index) }
 {

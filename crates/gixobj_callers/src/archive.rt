@@ -39,9 +39,11 @@ pub fn archive<S: Keep + KeepCommit>(
     ensures archived_before { IfErr result (λ it. IsArchived importer.old.hash
         (S.objects importer.old.editor.store) (before it.done.items steps.now) it.done.items
         (S.objects importer.new.editor.store)) }
-    ensures error { IfErr result (λ it. Stops (store_model S.objects S.may_fail) importer.old steps.now
+    ensures error { IfErr result (λ it. Stops (store_model S.objects S.may_fail)
+        importer.old steps.now
         it.done.items it.error importer.new) }
-    ensures cause { IfErr result (λ it. HasImportCause (store_model S.objects S.may_fail) S.keep_errors
+    ensures cause { IfErr result (λ it. HasImportCause
+        (store_model S.objects S.may_fail) S.keep_errors
         S.keep_commit_errors importer.old steps.now it.done.items it.error importer.new) }
 {
     match import_all(importer, steps) {
@@ -77,7 +79,8 @@ pub fn tip_of<S: Keep + KeepCommit + Drop>(
 ) -> Result<Option<Imported>, ImportError>
     ensures none { IfOk result (λ tip. IsNone tip ↔ (steps.now ≡ [])) }
     ensures tip { IfOk result (λ tip. IfSome tip (IsTip (S.objects store) hash steps.now)) }
-    ensures error { IfErr result (IsArchiveError (store_model S.objects S.may_fail) store hash steps.now) }
+    ensures error { IfErr result (IsArchiveError (store_model S.objects S.may_fail) store
+        hash steps.now) }
     ensures cause { IfErr result (HasArchiveCause (store_model S.objects S.may_fail) S.keep_errors
         S.keep_commit_errors store hash steps.now) }
 {

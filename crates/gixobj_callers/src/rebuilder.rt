@@ -105,7 +105,8 @@ pub fn wrote_the_same<S: Keep + Drop, E: Drop, F: Fn(&Tree) -> Result<ObjectId, 
     out: F,
 ) -> Result<bool, CompareError>
     requires callable { IsCallable F.pre out }
-    ensures compared { IfOk result (IsCompared (store_model S.objects S.may_fail) (FnReturnsAt F.Fn out)
+    ensures compared { IfOk result (IsCompared (store_model S.objects S.may_fail)
+        (FnReturnsAt F.Fn out)
         store object_hash commands.items position other) }
     ensures error { IfErr result (IsComparisonError (store_model S.objects S.may_fail)
         (FnReturnsAt F.Fn out) store object_hash commands.items position other) }

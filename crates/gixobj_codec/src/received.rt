@@ -22,7 +22,8 @@ pub fn received_commits_are_signed()
         → DecodesToCommit kind content commit → HasFirstValue (signature_field kind) commit signature
         → HasCommitSignature kind content signature
         (encode_commit (without_first_header (signature_field kind) commit)) }
-    ensures signed { (kind : Kind) (content : List ℕ) (commit : CommitLines) (signature signed : List ℕ)
+    ensures signed { (kind : Kind) (content : List ℕ) (commit : CommitLines)
+        (signature signed : List ℕ)
         → DecodesToCommit kind content commit → HasCommitSignature kind content signature signed
         → SignsCommit kind commit signature signed }
 {}

@@ -91,7 +91,8 @@ pub fn signed_commit_has_payload<R: Runner>(
     runner: &mut R,
 ) -> Result<Commit, Error>
     ensures signed { IfOk result (IsSignedCommit R.runs options commit runner.old runner.new) }
-    ensures error { IfErr result (IsCommitSigningError R.runs options commit runner.old runner.new) }
+    ensures error { IfErr result (IsCommitSigningError R.runs options commit
+        runner.old runner.new) }
     ensures found { IfOk result (λ signed. HasHeaderNames (owned_commit_lines commit)
         → ¬ HasNoSignature (id_kind commit.tree) (encode_commit (owned_commit_lines signed))) }
     ensures decoded { IfOk result (λ signed. HasHeaderNames (owned_commit_lines commit)
@@ -133,8 +134,10 @@ pub fn signed_tag_has_payload<R: Runner>(
     options: Options,
     runner: &mut R,
 ) -> Result<Tag, Error>
-    ensures signed { IfOk result (tag_signing.IsSignedTag R.runs options tag runner.old runner.new) }
-    ensures error { IfErr result (tag_signing.IsTagSigningError R.runs options tag runner.old runner.new) }
+    ensures signed { IfOk result (tag_signing.IsSignedTag R.runs options tag
+        runner.old runner.new) }
+    ensures error { IfErr result (tag_signing.IsTagSigningError R.runs options tag
+        runner.old runner.new) }
     ensures found { IfOk result (λ signed. FindsTagSignature R.runs options
         (encode_tag (tag_views.owned_tag_lines signed)) runner.old runner.new) }
     ensures payload { IfOk result (λ signed. TagPayloadIsSigned R.runs options

@@ -76,7 +76,8 @@ pub extern "C" fn gixobj_edit(
 
 /// Writes the number of a failure, and the id of a missing tree.
 fn write_failure(failed: Failed, id: &mut [u8], id_len: &mut usize, number: &mut u64) -> u32
-    ensures { WritesFailure failed.failure failed.number id.old id.new id_len.old id_len.new number.new
+    ensures { WritesFailure failed.failure failed.number id.old id.new id_len.old
+        id_len.new number.new
         result }
 {
     *number = failed.number;

@@ -81,7 +81,8 @@ pub fn store_of(alloc: Global, hash: hash::Kind, bytes: &[u8]) -> Result<Memory,
 /// - [`Failure::NotEncodable`] if a tree has a name with a zero byte.
 /// - [`Failure::OutOfMemory`] if an allocation fails.
 pub fn frames_of(alloc: Global, replies: &[Reply<Error>]) -> Result<Vec<u8>, Failure>
-    ensures found { IfOk result (λ it. it.items ≡ flat_map encode_frame (emitted_pairs replies.now)) }
+    ensures found { IfOk result (λ it. it.items
+        ≡ flat_map encode_frame (emitted_pairs replies.now)) }
     ensures error { IfErr result (IsFramesEncodeError (emitted_pairs replies.now)) }
 {
     let mut frames = Vec::new(alloc);
@@ -144,7 +145,8 @@ fn append_trees(
     trees: &[(ObjectId, Tree)],
     frames: &mut Vec<u8>,
 ) -> Result<(), Failure>
-    ensures appended { OnOk result (frames.new.items ≡ frames.old.items ++ flat_map encode_frame trees.now) }
+    ensures appended { OnOk result (frames.new.items ≡ frames.old.items
+        ++ flat_map encode_frame trees.now) }
     ensures error { IfErr result (IsFramesEncodeError trees.now) }
 {
     for (_, tree) in trees {
@@ -155,7 +157,8 @@ fn append_trees(
 
 /// Appends the frame of a tree.
 fn append_frame(alloc: Global, tree: &Tree, frames: &mut Vec<u8>) -> Result<(), Failure>
-    ensures appended { OnOk result (frames.new.items ≡ frames.old.items ++ encode_tree_frame tree.now) }
+    ensures appended { OnOk result (frames.new.items ≡ frames.old.items
+        ++ encode_tree_frame tree.now) }
     ensures error { IfErr result (IsFrameError tree.now) }
 {
     let mut bytes = Vec::new(alloc);

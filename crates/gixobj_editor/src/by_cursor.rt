@@ -29,7 +29,8 @@ pub(crate) fn do_edits_at<S: Keep, E: Drop, F: Fn(&Tree) -> Result<ObjectId, E>>
     requires callable { IsCallable F.pre out.now }
     ensures reply { IsReplyAt (store_model S.objects S.may_fail) (FnReturnsAt F.Fn out.now)
         (cursor_path (names_of prefix.now)) editor.old edits.items result editor.new }
-    ensures causes { HasCausesAt (store_model S.objects S.may_fail) S.keep_errors (FnReturnsAt F.Fn out.now)
+    ensures causes { HasCausesAt (store_model S.objects S.may_fail) S.keep_errors
+        (FnReturnsAt F.Fn out.now)
         (cursor_path (names_of prefix.now)) editor.old edits.items result editor.new }
 {
     match Vec::with_capacity(alloc, edits.len()) {
@@ -51,7 +52,8 @@ fn do_edits_in<S: Keep, E: Drop, F: Fn(&Tree) -> Result<ObjectId, E>>(
     requires has_capacity { length edits.items ≤ vec_capacity replies }
     ensures reply { IsReplyAt (store_model S.objects S.may_fail) (FnReturnsAt F.Fn out.now)
         (cursor_path (names_of prefix.now)) editor.old edits.items result editor.new }
-    ensures causes { HasCausesAt (store_model S.objects S.may_fail) S.keep_errors (FnReturnsAt F.Fn out.now)
+    ensures causes { HasCausesAt (store_model S.objects S.may_fail) S.keep_errors
+        (FnReturnsAt F.Fn out.now)
         (cursor_path (names_of prefix.now)) editor.old edits.items result editor.new }
 {
     match editor.cursor_at(prefix) {

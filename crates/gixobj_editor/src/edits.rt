@@ -20,7 +20,8 @@ pub(crate) fn do_edit<S: Keep, E, F: Fn(&Tree) -> Result<ObjectId, E>>(
     out: &F,
 ) -> EditReply<E>
     requires callable { IsCallable F.pre out.now }
-    ensures reply { IsEditReply (store_model S.objects S.may_fail) (FnReturnsAt F.Fn out.now) at_root
+    ensures reply { IsEditReply (store_model S.objects S.may_fail)
+        (FnReturnsAt F.Fn out.now) at_root
         editor.old edit result editor.new }
     ensures cause { HasKeepCause S.objects S.keep_errors editor.old.store result }
 {
@@ -38,7 +39,8 @@ fn do_write<S: Keep, E, F: Fn(&Tree) -> Result<ObjectId, E>>(
     out: &F,
 ) -> EditReply<E>
     requires callable { IsCallable F.pre out.now }
-    ensures reply { IsEditReply (store_model S.objects S.may_fail) (FnReturnsAt F.Fn out.now) at_root
+    ensures reply { IsEditReply (store_model S.objects S.may_fail)
+        (FnReturnsAt F.Fn out.now) at_root
         editor.old Edit.Write result editor.new }
     ensures cause { HasKeepCause S.objects S.keep_errors editor.old.store result }
 {

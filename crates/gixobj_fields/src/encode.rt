@@ -239,7 +239,8 @@ pub fn header_field_multi_line<S: Sink>(name: &[u8], value: &[u8], sink: &mut S)
 /// Appends the lines of a value.
 #[tactic(auto, using(crate::proofs::FieldWrites::appends_prefix_of_folded, crate::proofs::Appends::appends_or_fails_append))]
 fn write_folded<S: Sink>(value: &[u8], sink: &mut S) -> io::Result<()>
-    ensures appended { AppendsOrFails result (S.view sink.old) (S.view sink.new) (folded value.now) }
+    ensures appended { AppendsOrFails result (S.view sink.old) (S.view sink.new)
+        (folded value.now) }
     ensures same_loan { S.loan sink.new ≡ S.loan sink.old }
 {
     let mut rest = value;

@@ -42,7 +42,8 @@ pub fn header_field<'a>(input: &'a [u8], name: &[u8]) -> Option<(&'a [u8], &'a [
 /// Returns `None` unless the input begins with the field of an id of this kind. Allocates nothing.
 #[inline(always)]
 pub fn header_id<'a>(input: &'a [u8], name: &[u8], kind: Kind) -> Option<(BStr<'a>, &'a [u8])>
-    ensures found { IfSome result (λ it. BeginsWithIdField name.now kind input.now (bstr_bytes it.0) it.1.now) }
+    ensures found { IfSome result (λ it. BeginsWithIdField name.now kind input.now
+        (bstr_bytes it.0) it.1.now) }
     ensures none { IfNone result (BeginsWithNoIdField name.now kind input.now) }
 {
     let Some(line) = after_name(input, name) else {
@@ -76,7 +77,8 @@ fn split_at_newline(bytes: &[u8], index: usize) -> Option<(&[u8], &[u8])>
 ///
 /// Returns `None` unless the input begins with such a field. Allocates nothing.
 pub fn header_kind<'a>(input: &'a [u8], name: &[u8]) -> Option<(ObjectKind, &'a [u8])>
-    ensures found { IfSome result (λ it. BeginsWithField name.now input.now (kind_name it.0) it.1.now) }
+    ensures found { IfSome result (λ it. BeginsWithField name.now input.now
+        (kind_name it.0) it.1.now) }
     ensures none { IfNone result (BeginsWithNoKindField name.now input.now) }
 {
     let Some((token, rest)) = header_field(input, name) else {

@@ -176,7 +176,8 @@ pub fn write_parts<S: Sink>(parts: &[&[u8]], sink: &mut S) -> io::Result<()>
 #[inline(always)]
 #[tactic(auto, using(crate::proofs::Appends::appends_prefix_first, crate::proofs::Appends::appends_or_fails_append))]
 pub(crate) fn write_both<S: Sink>(first: &[u8], second: &[u8], sink: &mut S) -> io::Result<()>
-    ensures appended { AppendsOrFails result (S.view sink.old) (S.view sink.new) (first.now ++ second.now) }
+    ensures appended { AppendsOrFails result (S.view sink.old) (S.view sink.new) (first.now
+        ++ second.now) }
     ensures same_loan { S.loan sink.new ≡ S.loan sink.old }
 {
     sink.write_bytes(first)?;

@@ -52,7 +52,8 @@ pub trait WriteTo {
     /// At the last two, exactly the parts before the rejected value have been written.
     fn write_into<S: Sink>(&self, alloc: Global, sink: &mut S) -> Result<(), encode::Error>
         requires { can_write self.now }
-        ensures written { OnOk result (AppendsAll (S.view sink.old) (S.view sink.new) (encoding self.now)) }
+        ensures written { OnOk result (AppendsAll (S.view sink.old) (S.view sink.new)
+            (encoding self.now)) }
         ensures no_error { OnOk result (RejectsNothing (rejects self.now)) }
         ensures error { IfErr result (IsWritingError (rejects self.now) (S.view sink.old)
             (S.view sink.new) (encoding self.now)) }
@@ -98,7 +99,8 @@ pub trait WriteTo {
         ensures no_error { OnOk result (RejectsNothing (rejects self.now)) }
         ensures error { IfErr result (IsWritingError (rejects self.now)
             (writer_view (W.contents out.old)) (writer_view (W.contents out.new)) (encoding self.now)) }
-        ensures room { IfErr result (LacksRoom (rejects self.now) (writer_view (W.contents out.old))) }
+        ensures room { IfErr result (LacksRoom (rejects self.now)
+            (writer_view (W.contents out.old))) }
     {
         self.write_into(alloc, &mut ToWrite(out))
     }
@@ -148,7 +150,8 @@ pub trait WriteTo {
     /// - Any other [`encode::Error`] if the object has the value that the error names.
     final fn compute_id(&self, alloc: Global, hash: hash::Kind) -> Result<ObjectId, encode::Error>
         requires { can_write self.now }
-        ensures found { IfOk result (λ id. id ≡ id_of hash (object_kind self.now) (encoding self.now)) }
+        ensures found { IfOk result (λ id. id
+            ≡ id_of hash (object_kind self.now) (encoding self.now)) }
         ensures no_error { OnOk result (RejectsNothing (rejects self.now)) }
         ensures error { IfErr result (IsEncodingError (rejects self.now) (encoding self.now)) }
     {

@@ -92,7 +92,8 @@ impl Entries {
 
     /// Returns the entry of tree mode of a name, if there is one. Allocates nothing.
     pub fn find_tree(&self, name: &[u8]) -> Option<&Entry>
-        ensures { option_copied result ≡ find (λ e. same_name e.name name.now && is_tree_mode e.mode)
+        ensures { option_copied result ≡ find
+            (λ e. same_name e.name name.now && is_tree_mode e.mode)
             self.now }
     {
         let first = entries_of(&self.tree);

@@ -198,9 +198,11 @@ pub fn loose_header(
     alloc: Global,
     input: &[u8],
 ) -> Result<(Kind, u64, usize), LooseHeaderDecodeError>
-    ensures accepts { (kind : Kind) (size used : ℕ) → HasLooseHeaderOfLength input.now kind size used
+    ensures accepts { (kind : Kind) (size used : ℕ)
+        → HasLooseHeaderOfLength input.now kind size used
         → result ≡ Ok (kind, size, used) }
-    ensures found { IfOk result (λ header. HasLooseHeaderOfLength input.now header.0 header.1 header.2) }
+    ensures found { IfOk result (λ header. HasLooseHeaderOfLength input.now header.0
+        header.1 header.2) }
     ensures error { IfErr result (IsLooseHeaderError input.now) }
 {
     decode_loose_header_parts(alloc, input)
@@ -211,7 +213,8 @@ fn decode_loose_header_parts(
     alloc: Global,
     input: &[u8],
 ) -> Result<(Kind, u64, usize), LooseHeaderDecodeError>
-    ensures found { IfOk result (λ header. HasLooseHeaderOfLength input.now header.0 header.1 header.2) }
+    ensures found { IfOk result (λ header. HasLooseHeaderOfLength input.now header.0
+        header.1 header.2) }
     ensures error { IfErr result (IsLooseHeaderError input.now) }
 {
     let Some((token, after)) = split_at_byte(input, b' ') else {

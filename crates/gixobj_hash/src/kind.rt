@@ -52,7 +52,8 @@ impl Kind {
     ///
     /// Returns `None` for any other bytes. Allocates nothing.
     pub fn from_name(token: &[u8]) -> Option<Kind>
-        ensures { MatchOption result (IsUnknownKindName token.now) (λ kind. token.now ≡ kind_name kind) }
+        ensures { MatchOption result (IsUnknownKindName token.now)
+            (λ kind. token.now ≡ kind_name kind) }
     {
         match token {
             b"tree" => Some(Kind::Tree),

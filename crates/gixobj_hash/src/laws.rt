@@ -36,5 +36,6 @@ pub fn hex_reencodes_identically()
 #[tactic(auto, using(crate::proofs::HexIds::decoded_id_decodes, crate::proofs::HexIds::decoded_id_unique))]
 pub fn hex_decodes_uniquely()
     ensures decodes { (bytes : List ℕ) → IsIdHex bytes → DecodesToId bytes (decoded_id bytes) }
-    ensures no_other { (bytes : List ℕ) (id : ObjectId) → DecodesToId bytes id → id ≡ decoded_id bytes }
+    ensures no_other { (bytes : List ℕ) (id : ObjectId) → DecodesToId bytes id → id
+        ≡ decoded_id bytes }
 {}

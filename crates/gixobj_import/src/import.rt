@@ -261,7 +261,8 @@ pub fn import_all<S: Keep + KeepCommit>(
     ensures error { IfErr result (λ it.
         Stops (store_model S.objects S.may_fail) importer.old steps.now it.done.items it.error
         importer.new) }
-    ensures cause { IfErr result (λ it. HasImportCause (store_model S.objects S.may_fail) S.keep_errors
+    ensures cause { IfErr result (λ it. HasImportCause
+        (store_model S.objects S.may_fail) S.keep_errors
         S.keep_commit_errors importer.old steps.now it.done.items it.error importer.new) }
     ensures encoding { IfErr result (λ it. HasEncodingCause importer.old.hash it.error) }
     ensures added { AddsByDigest (S.objects importer.old.editor.store)

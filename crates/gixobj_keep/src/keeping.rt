@@ -139,7 +139,8 @@ pub fn keep_all<S: Keep>(
     store: &mut S,
     trees: &[(ObjectId, Tree)],
 ) -> Result<(), (usize, KeepError)>
-    ensures stored { OnOk result (S.objects store.new ≡ with_trees trees.now (S.objects store.old)) }
+    ensures stored { OnOk result (S.objects store.new
+        ≡ with_trees trees.now (S.objects store.old)) }
     ensures have_encodings { OnOk result (All (λ kept. IsEncodableTree kept.1) trees.now) }
     ensures error { IfErr result (λ it.
         StopsKeepingAt (S.may_fail store.old) trees.now (S.objects store.old) (S.objects store.new)

@@ -97,7 +97,8 @@ pub fn decode_line(
 #[inline(always)]
 #[tactic(auto, using(crate::specs::Lines::tree_comes))]
 fn decode_tree_line(kind: Kind, input: &[u8]) -> Result<(Line<'_>, State, &[u8]), Error>
-    ensures found { IfOk result (λ it. BeginsWithLine kind state.Tree input.now (line_view it.0) it.1
+    ensures found { IfOk result (λ it. BeginsWithLine kind state.Tree input.now
+        (line_view it.0) it.1
         it.2.now) }
     ensures parts { IfOk result (λ it. IsParsedLine it.0) }
     ensures error { IfErr result (IsLineError kind state.Tree input.now) }
@@ -112,7 +113,8 @@ fn decode_tree_line(kind: Kind, input: &[u8]) -> Result<(Line<'_>, State, &[u8])
 #[inline(always)]
 #[tactic(auto, using(crate::specs::Lines::parent_comes, crate::specs::Lines::author_comes))]
 fn decode_parent_or_author(kind: Kind, input: &[u8]) -> Result<(Line<'_>, State, &[u8]), Error>
-    ensures found { IfOk result (λ it. BeginsWithLine kind state.Parents input.now (line_view it.0) it.1
+    ensures found { IfOk result (λ it. BeginsWithLine kind state.Parents input.now
+        (line_view it.0) it.1
         it.2.now) }
     ensures parts { IfOk result (λ it. IsParsedLine it.0) }
     ensures error { IfErr result (IsLineError kind state.Parents input.now) }
@@ -182,7 +184,8 @@ fn decode_header_or_message(alloc: Global, input: &[u8]) -> Result<(Line<'_>, St
 /// Decodes the field of this name with an actor: its value, the actor, and the rest of the input.
 #[inline(always)]
 fn actor_line<'a>(input: &'a [u8], name: &[u8]) -> Option<(BStr<'a>, SignatureRef<'a>, &'a [u8])>
-    ensures found { IfSome result (λ it. BeginsWithActorField name.now input.now (bstr_bytes it.0) it.2.now) }
+    ensures found { IfSome result (λ it. BeginsWithActorField name.now input.now
+        (bstr_bytes it.0) it.2.now) }
     ensures actor { IfSome result (λ it. IsActorOf (bstr_bytes it.0) (actor_view it.1)) }
     ensures none { IfNone result (BeginsWithNoActorField name.now input.now) }
 {
@@ -216,7 +219,8 @@ pub fn after_line(before: State, kind: Kind, input: &[u8]) -> Option<(State, &[u
 /// Skips the tree.
 #[tactic(auto, using(crate::proofs::SkippedLines::no_tree))]
 fn after_tree(kind: Kind, input: &[u8]) -> Option<(State, &[u8])>
-    ensures found { IfSome result (λ it. BeginsWithSomeLine kind state.Tree input.now it.0 it.1.now) }
+    ensures found { IfSome result (λ it. BeginsWithSomeLine kind state.Tree input.now
+        it.0 it.1.now) }
     ensures none { IfNone result (HasNoPiece (BeginsWithLine kind) state.Tree input.now) }
 {
     let Some((_, rest)) = header_id(input, b"tree", kind) else {
@@ -228,7 +232,8 @@ fn after_tree(kind: Kind, input: &[u8]) -> Option<(State, &[u8])>
 /// Skips a parent, or else the author.
 #[tactic(auto, using(crate::proofs::SkippedLines::no_parent_or_author))]
 fn after_parent_or_author(kind: Kind, input: &[u8]) -> Option<(State, &[u8])>
-    ensures found { IfSome result (λ it. BeginsWithSomeLine kind state.Parents input.now it.0 it.1.now) }
+    ensures found { IfSome result (λ it. BeginsWithSomeLine kind state.Parents input.now
+        it.0 it.1.now) }
     ensures none { IfNone result (HasNoPiece (BeginsWithLine kind) state.Parents input.now) }
 {
     if let Some((_, rest)) = header_id(input, b"parent", kind) {

@@ -145,7 +145,8 @@ fn tree_content(alloc: Global, input: &[u8]) -> Result<&[u8], Failure>
 
 /// Returns the lines of a tree's entries. An empty tree allocates nothing.
 fn lines(alloc: Global, tree: &TreeRef<'_>) -> Result<Vec<u8>, AllocError>
-    ensures encoded { IfOk result (λ listed_lines. listed_lines.items ≡ listing_of (tree_entries tree.now)) }
+    ensures encoded { IfOk result (λ listed_lines. listed_lines.items
+        ≡ listing_of (tree_entries tree.now)) }
     ensures allocates { OnErr result (tree_entries tree.now ≢ []) }
 {
     let mut listed_lines = Vec::new(alloc);
@@ -157,7 +158,8 @@ fn lines(alloc: Global, tree: &TreeRef<'_>) -> Result<Vec<u8>, AllocError>
 
 /// Appends the line of an entry.
 fn push_line(listed_lines: &mut Vec<u8>, entry: &EntryRef<'_>) -> Result<(), AllocError>
-    ensures { OnOk result (listed_lines.new.items ≡ listed_lines.old.items ++ entry_line (entry_view entry.now)) }
+    ensures { OnOk result (listed_lines.new.items ≡ listed_lines.old.items
+        ++ entry_line (entry_view entry.now)) }
 {
     let mut mode = [0u8; 6];
     let mut hex = [0u8; 64];

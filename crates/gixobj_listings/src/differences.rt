@@ -107,7 +107,8 @@ fn opened_changes<S: Find>(
     ensures ordered { IfOk result (λ changes. AreChangesInOrder changes.items) }
     ensures paths { IfOk result (λ changes.
         AllByRecursion (λ change. has_names change.path ≡ true) changes.items) }
-    ensures read { OnOk result (IsRead (S.objects store.now) from × IsRead (S.objects store.now) to) }
+    ensures read { OnOk result (IsRead (S.objects store.now) from
+        × IsRead (S.objects store.now) to) }
     ensures error { IfErr result (IsChangesError (S.objects store.now) (S.may_fail store.now) depth
         from to) }
 {
@@ -200,7 +201,8 @@ fn changes_between<S: Find>(
 
 /// Returns `true` if the entries have the same mode and the same id.
 fn is_same_version(before: &Entry, after: &Entry) -> bool
-    ensures equal { IsTrue result → (before.now.mode ≡ after.now.mode) × (before.now.id ≡ after.now.id) }
+    ensures equal { IsTrue result → (before.now.mode ≡ after.now.mode)
+        × (before.now.id ≡ after.now.id) }
     ensures different { IsFalse result
         → ¬ ((before.now.mode ≡ after.now.mode) × (before.now.id ≡ after.now.id)) }
 {

@@ -15,7 +15,8 @@ use gix_object::laws::{
 /// The changes between two trees are those that steps make of the first tree's files, if the steps make the
 /// second's of them.
 pub fn tree_changes_are_step_changes()
-    ensures { (T : Table) (n : ℕ) (from to : ObjectId) (steps : List Step) (changes : List ChangeView)
+    ensures { (T : Table) (n : ℕ) (from to : ObjectId) (steps : List Step)
+        (changes : List ChangeView)
         → SameFiles (NamedFiles T n to) (FilesAfter T n steps (NamedFiles T n from))
         → AreChanges (NamedFiles T n from) (NamedFiles T n to) changes
         → AreChanges (NamedFiles T n from) (FilesAfter T n steps (NamedFiles T n from)) changes }

@@ -47,7 +47,8 @@ pub fn is_mirrored<S: Find, O: Find>(
     copy: ObjectId,
     depth: u32,
 ) -> Result<bool, MirrorError>
-    ensures same { IfOk result (λ same. OfTrees (S.objects store.now) (λ trees. OfTrees (O.objects other.now)
+    ensures same { IfOk result (λ same. OfTrees (S.objects store.now)
+        (λ trees. OfTrees (O.objects other.now)
         (λ others. DecidesSameFiles trees others root copy same))) }
     ensures error { IfErr result (IsMirrorError (S.objects store.now) (S.may_fail store.now)
         (O.objects other.now) (O.may_fail other.now) root copy depth) }

@@ -257,7 +257,8 @@ impl<'a> TryFrom<&'a [u8]> for EntryMode {
 /// Encodes the mode of a kind, with a space after it. Returns `None` for any other mode. Allocates nothing.
 #[inline(always)]
 pub fn encode_kind(mode: EntryMode) -> Option<&'static [u8]>
-    ensures found { IfSome result (λ content. content.now ≡ encode_mode (mode_bits mode) ++ space ∷ []) }
+    ensures found { IfSome result (λ content. content.now ≡ encode_mode (mode_bits mode)
+        ++ space ∷ []) }
     ensures none { IfNone result ((kind : EntryKind) → mode_bits mode ≢ mode_of_kind kind) }
 {
     match mode.internal {

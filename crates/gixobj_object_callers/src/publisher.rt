@@ -51,7 +51,8 @@ pub fn tag_copy_of(alloc: Global, bytes: &[u8], kind: Kind) -> Result<Vec<u8>, C
 ///
 /// The result is never `None` for the encoding of a tag. For other bytes it is unspecified.
 pub fn target_of(bytes: &[u8], kind: Kind) -> Option<ObjectId>
-    ensures { (tag : TagLines) → DecodesToTag kind bytes.now tag → (id : ObjectId) × (result ≡ Some id)
+    ensures { (tag : TagLines) → DecodesToTag kind bytes.now tag → (id : ObjectId)
+        × (result ≡ Some id)
         × DecodesToId tag.target id }
 {
     tag_part_search_complete();

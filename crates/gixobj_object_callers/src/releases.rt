@@ -35,7 +35,8 @@ pub fn signed_payload<R: Runner>(
     ensures signed { IfOk result (λ content.
         IsSignedEncoding R.runs (signing.sign_options_view options) commit runner.old content.items
         runner.new) }
-    ensures error { IfErr result (IsSignedEncodingError R.runs options commit runner.old runner.new) }
+    ensures error { IfErr result (IsSignedEncodingError R.runs options commit
+        runner.old runner.new) }
 {
     match commit.sign(alloc, options, runner) {
         Ok(signed) => match written(alloc, &signed) {
@@ -48,7 +49,8 @@ pub fn signed_payload<R: Runner>(
 
 /// Encodes a commit.
 fn written(alloc: Global, commit: &Commit) -> Result<Vec<u8>, encode::Error>
-    ensures encoded { IfOk result (λ content. content.items ≡ encode_commit (owned_commit_lines commit.now)) }
+    ensures encoded { IfOk result (λ content. content.items
+        ≡ encode_commit (owned_commit_lines commit.now)) }
     ensures error { IfErr result (IsCommitEncodingError commit.now
         (encode_commit (owned_commit_lines commit.now))) }
 {
@@ -94,7 +96,8 @@ pub fn audit<R: Runner>(
     options: Options,
     runner: &mut R,
 ) -> Result<Option<Outcome>, AuditError>
-    ensures audited { IfOk result (IsAudit R.runs (verify_options_view options) kind hash_kind bytes.now
+    ensures audited { IfOk result (IsAudit R.runs (verify_options_view options) kind
+        hash_kind bytes.now
         runner.old runner.new) }
     ensures accepted { IfOk result (λ it.
         IfSome it (λ outcome. (outcome_view outcome).valid ≡ true

@@ -30,7 +30,8 @@ pub fn signers_of<'a>(
     bytes: &'a [u8],
     kind: Kind,
 ) -> Result<Vec<TrailerRef<'a>>, Error>
-    ensures found { IfOk result (λ it. (commit : CommitLines) × DecodesToCommit kind bytes.now commit
+    ensures found { IfOk result (λ it. (commit : CommitLines)
+        × DecodesToCommit kind bytes.now commit
         × AreSignOffs commit.message (map trailer_view it.items)) }
     ensures error { IfErr result (λ error. error ≡ Malformed → IsMalformedCommit kind bytes.now) }
 {

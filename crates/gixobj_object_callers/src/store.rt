@@ -48,10 +48,12 @@ pub enum CopyError {
 /// - [`CopyError::Read`] if the bytes are malformed, or allocation fails;
 /// - [`CopyError::Write`] if the encoding header is empty, or allocation fails.
 pub fn copy_of(alloc: Global, bytes: &[u8], kind: Kind) -> Result<Vec<u8>, CopyError>
-    ensures same_bytes { IfOk result (λ copy. (commit : CommitLines) → DecodesToCommit kind bytes.now commit
+    ensures same_bytes { IfOk result (λ copy. (commit : CommitLines)
+        → DecodesToCommit kind bytes.now commit
         → AllPass is_lower_hex_digit commit.tree
         → All (λ hex. AllPass is_lower_hex_digit hex) commit.parents → copy.items ≡ bytes.now) }
-    ensures error { IfErr result (λ error. (commit : CommitLines) → DecodesToCommit kind bytes.now commit
+    ensures error { IfErr result (λ error. (commit : CommitLines)
+        → DecodesToCommit kind bytes.now commit
         → commit.encoding ≢ Some [] → FailsForRoom error) }
 {
     commit_decodes_uniquely();

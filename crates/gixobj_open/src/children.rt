@@ -201,7 +201,8 @@ impl<'a> Remaining<'a> {
     /// The directories are in the order of their entries, so there is no search. Allocates nothing.
     pub fn next_of(self, entry: &Entry) -> (Option<&'a Child>, Remaining<'a>)
         requires { AreNonEmpty (λ p. p.items) self.more.now }
-        ensures next { option_copied result.0 ≡ next_child entry.now.name (remaining_list self.entry) }
+        ensures next { option_copied result.0
+            ≡ next_child entry.now.name (remaining_list self.entry) }
         ensures following { remaining_list result.1 ≡ pairs_after_next entry.now.name
             (remaining_list self.entry) }
         ensures filled { AreNonEmpty (λ p. p.items) result.1.more.now }

@@ -72,7 +72,8 @@ fn wait<'a>(
 /// Begins the copy of a directory, which has this name.
 fn begin(alloc: Global, name: BString, node: &Open) -> Result<Copying<'_>, AllocError>
     ensures name { IfOk result (λ it. it.name ≡ name) }
-    ensures half { IfOk result (λ it. IsCopiedInPart it (parts (remaining_list it.remaining)) node.now) }
+    ensures half { IfOk result (λ it. IsCopiedInPart it
+        (parts (remaining_list it.remaining)) node.now) }
     ensures fewer { IfOk result (λ it. length (below (parts (remaining_list it.remaining))) + 1
         ≡ length node.now) }
 {

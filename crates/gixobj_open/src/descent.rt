@@ -124,7 +124,8 @@ impl Open {
     /// Enters the open directories of a path one after the other, and returns their number.
     fn enter(&mut self, above: &mut Open, path: &[BString]) -> usize
         ensures depth { result ≤ length path.now }
-        ensures descended { IsDescended (names_of (take result path.now)) self.old self.new above.new }
+        ensures descended { IsDescended (names_of (take result path.now)) self.old
+            self.new above.new }
     {
         let mut depth = 0;
         for name in path {

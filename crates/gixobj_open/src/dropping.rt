@@ -42,7 +42,8 @@ impl Open {
     /// Takes the last open directory out of the directory, which is dropped if there is none.
     pub fn split_last(self) -> Option<(Open, Open)>
         ensures sizes { IfSome result (λ it. length it.0 + length it.1 ≡ length self) }
-        ensures trees { IfSome result (λ it. waiting_trees it.0 it.1 ≡ leaf_trees (inside_of self)) }
+        ensures trees { IfSome result (λ it. waiting_trees it.0 it.1
+            ≡ leaf_trees (inside_of self)) }
         ensures none { IfNone result (inside_of self ≡ []) }
     {
         let (entries, base, mut children) = self.into_parts();

@@ -89,7 +89,8 @@ impl<T: Drop> From<AllocFailed<T>> for BatchError {
 /// - [`BatchError::Malformed`] with the offset of the first record that is malformed, and its fault.
 /// - [`BatchError::OutOfMemory`] if an allocation fails.
 pub fn decode_records(alloc: Global, input: &[u8]) -> Result<Vec<Record<'_>>, BatchError>
-    ensures found { IfOk result (λ records. DecodesToRecords input.now (map record_view records.items)) }
+    ensures found { IfOk result (λ records. DecodesToRecords input.now
+        (map record_view records.items)) }
     ensures error { IfErr result (IsBatchError input.now) }
 {
     let mut records = Vec::new(alloc);

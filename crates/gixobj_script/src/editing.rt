@@ -71,7 +71,8 @@ pub fn edit_on<S: Keep, E: Drop, F: Fn(&Tree) -> Result<ObjectId, E> + Drop>(
     out: F,
 ) -> Result<Vec<u8>, ScriptError>
     requires callable { IsCallable F.pre out }
-    ensures reported { IfOk result (λ content. IsReported (store_model S.objects S.may_fail) (FnReturnsAt F.Fn out)
+    ensures reported { IfOk result (λ content. IsReported (store_model S.objects S.may_fail)
+        (FnReturnsAt F.Fn out)
         hash script.now editor.old content.items editor.new) }
     ensures error { IfErr result (IsScriptRunError hash script.now) }
     ensures unchanged { IfErr result (λ error. (number : ℕ) → error ≡ BadLine number
@@ -103,7 +104,8 @@ fn run_and_report<S: Keep, E: Drop, F: Fn(&Tree) -> Result<ObjectId, E>>(
     lines: Option<Vec<u8>>,
 ) -> Option<Vec<u8>>
     requires callable { IsCallable F.pre out.now }
-    ensures { IsCommandReported (store_model S.objects S.may_fail) (FnReturnsAt F.Fn out.now) editor.old
+    ensures { IsCommandReported (store_model S.objects S.may_fail)
+        (FnReturnsAt F.Fn out.now) editor.old
         command lines result editor.new }
 {
     let reply = run_command(alloc, editor, command, out);

@@ -131,7 +131,8 @@ fn push_edit_line<E>(bytes: &mut Vec<u8>, reply: &EditReply<E>) -> Result<(), Ou
 
 /// Appends the line that reports an edit that failed.
 fn push_error(bytes: &mut Vec<u8>, error: &Error) -> Result<(), OutOfMemory>
-    ensures { OnOk result (bytes.new.items ≡ bytes.old.items ++ encode_line (edit_error_line error.now)) }
+    ensures { OnOk result (bytes.new.items ≡ bytes.old.items
+        ++ encode_line (edit_error_line error.now)) }
 {
     push_error_line(bytes, error)?;
     bytes.push(b'\n')?;

@@ -37,7 +37,8 @@ pub fn engine<R: Read, O: Write, E: Write>(
         (R.remaining input.new) (writer_view (O.contents output.old))
         (writer_view (O.contents output.new)) }
     ensures no_error { result ≡ 0 → errors.new ≡ errors.old }
-    ensures error { result ≢ 0 → IsReportedError (map string_bytes arguments.now) (R.remaining input.old)
+    ensures error { result ≢ 0 → IsReportedError (map string_bytes arguments.now)
+        (R.remaining input.old)
         (R.remaining input.new) ⊤ (writer_view (O.contents output.old))
         (writer_view (O.contents output.new)) (writer_view (E.contents errors.old))
         (writer_view (E.contents errors.new)) (input.new ≡ input.old) (output.new ≡ output.old)

@@ -46,7 +46,8 @@ pub fn consumed_entries_are_prefix()
         (at after : TreeRefIter) (entry : EntryRef) → HasConsumedEntries kind bytes entries at
         → NextEntry at (Some (Ok entry)) after
         → HasConsumedEntries kind bytes (entries ++ entry_view entry ∷ []) after }
-    ensures ends { (kind : Kind) (bytes : List ℕ) (entries : List EntryView) (at after : TreeRefIter)
+    ensures ends { (kind : Kind) (bytes : List ℕ) (entries : List EntryView)
+        (at after : TreeRefIter)
         → HasConsumedEntries kind bytes entries at → NextEntry at None after
         → YieldsEntries kind bytes entries complete }
     ensures stops { (kind : Kind) (bytes : List ℕ) (entries : List EntryView)

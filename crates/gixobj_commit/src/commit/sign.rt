@@ -101,7 +101,8 @@ impl CommitRef<'_> {
 
 /// Encodes a commit.
 fn payload_of(alloc: Global, commit: &Commit) -> Result<Vec<u8>, encode::Error>
-    ensures encoded { IfOk result (λ content. content.items ≡ encode_commit (owned_commit_lines commit.now)) }
+    ensures encoded { IfOk result (λ content. content.items
+        ≡ encode_commit (owned_commit_lines commit.now)) }
     ensures writable { OnOk result (RejectsNothing (IsOwnedCommitError commit.now)) }
     ensures error { IfErr result (IsCommitEncodingError commit.now
         (encode_commit (owned_commit_lines commit.now))) }

@@ -107,7 +107,8 @@ fn write_hex_ids<S: Sink>(tree: BStr<'_>, parents: &[BStr<'_>], sink: &mut S) ->
 #[tactic(auto, using(crate::proofs::HexFields::encode_decoded_id_lower_case, crate::proofs::HexFields::id_hex_len_le))]
 fn write_hex_tree<S: Sink>(tree: BStr<'_>, sink: &mut S) -> io::Result<()>
     requires { IsIdHex (bstr_bytes tree) }
-    ensures appended { AppendsOrFails result (S.view sink.old) (S.view sink.new) (hex_tree tree.entry) }
+    ensures appended { AppendsOrFails result (S.view sink.old) (S.view sink.new)
+        (hex_tree tree.entry) }
     ensures same_loan { S.loan sink.new ≡ S.loan sink.old }
 {
     trusted_header_hex(b"tree", tree.as_bytes(), sink)
@@ -132,7 +133,8 @@ fn hex_tree_size(tree: BStr<'_>) -> Option<u64>
 
 /// Returns the size of the lines of the tree and of the parents, or `None` above 64 bits.
 fn ids_size<T: Field>(tree: &ObjectId, parents: &[T]) -> Option<u64>
-    ensures { IsSize result (encode_field (codes "tree") (encode_id_hex tree.now) ++ flat_map T.written
+    ensures { IsSize result (encode_field (codes "tree") (encode_id_hex tree.now)
+        ++ flat_map T.written
         parents.now) }
 {
     size_with_all(size_plus_id(0, b"tree", tree)?, parents)
@@ -151,7 +153,8 @@ trait Field {
     /// Writes the field.
     fn write_bytes<S: Sink>(&self, sink: &mut S) -> io::Result<()>
         requires { can_encode self.now }
-        ensures appended { AppendsOrFails result (S.view sink.old) (S.view sink.new) (written self.now) }
+        ensures appended { AppendsOrFails result (S.view sink.old) (S.view sink.new)
+            (written self.now) }
         ensures same_loan { S.loan sink.new ≡ S.loan sink.old };
 
     /// Adds the size of the field to `size`, or returns `None` above 64 bits.

@@ -54,7 +54,8 @@ impl<'a> CommitRefIter<'a> {
     #[tactic(auto, using(crate::proofs::CommitRuns::searches_nil, crate::proofs::CommitRuns::ends_search_at_first))]
     pub fn author(self) -> Result<SignatureRef<'a>, Error>
         ensures found { IfOk result (λ it. FindsAuthor self.entry (actor_view it)) }
-        ensures error { IfErr result (λ error. EndsSearch IsAuthorToken self.entry (required_error error)) }
+        ensures error { IfErr result (λ error. EndsSearch IsAuthorToken self.entry
+            (required_error error)) }
     {
         for item in self {
             let token = item?;
@@ -77,7 +78,8 @@ impl<'a> CommitRefIter<'a> {
     #[tactic(auto, using(crate::proofs::CommitRuns::searches_nil, crate::proofs::CommitRuns::ends_search_at_first))]
     pub fn committer(self) -> Result<SignatureRef<'a>, Error>
         ensures found { IfOk result (λ it. FindsCommitter self.entry (actor_view it)) }
-        ensures error { IfErr result (λ error. EndsSearch IsCommitterToken self.entry (required_error error)) }
+        ensures error { IfErr result (λ error. EndsSearch IsCommitterToken self.entry
+            (required_error error)) }
     {
         for item in self {
             let token = item?;
@@ -99,7 +101,8 @@ impl<'a> CommitRefIter<'a> {
     #[tactic(auto, using(crate::proofs::CommitRuns::searches_nil, crate::proofs::CommitRuns::ends_search_at_first))]
     pub fn message(self) -> Result<BStr<'a>, Error>
         ensures found { IfOk result (λ it. FindsMessage self.entry (bstr_bytes it)) }
-        ensures error { IfErr result (λ error. EndsSearch IsMessageToken self.entry (optional_error error)) }
+        ensures error { IfErr result (λ error. EndsSearch IsMessageToken self.entry
+            (optional_error error)) }
     {
         for answer in self {
             let token = answer?;

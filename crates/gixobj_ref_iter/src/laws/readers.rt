@@ -73,7 +73,8 @@ pub fn id_search_complete()
 ///
 /// Each search fails only if memory runs out.
 pub fn actor_search_complete()
-    ensures author { (kind : Kind) (content : List ℕ) (commit : CommitLines) (reader : CommitRefIter)
+    ensures author { (kind : Kind) (content : List ℕ) (commit : CommitLines)
+        (reader : CommitRefIter)
         (actor : ActorView) → DecodesToCommit kind content commit → IsAtStartOfCommit kind content reader
         → FindsAuthor reader actor → IsActorOf commit.author actor }
     ensures has_author { (kind : Kind) (content : List ℕ) (commit : CommitLines)
@@ -92,7 +93,8 @@ pub fn actor_search_complete()
 ///
 /// The search fails only if memory runs out.
 pub fn message_search_complete()
-    ensures message { (kind : Kind) (content : List ℕ) (commit : CommitLines) (reader : CommitRefIter)
+    ensures message { (kind : Kind) (content : List ℕ) (commit : CommitLines)
+        (reader : CommitRefIter)
         (message : List ℕ) → DecodesToCommit kind content commit → IsAtStartOfCommit kind content reader
         → FindsMessage reader message → message ≡ commit.message }
     ensures has_message { (kind : Kind) (content : List ℕ) (commit : CommitLines)

@@ -156,7 +156,8 @@ fn with_status_if_any<'a>(before: Statuses<'a>, found: Option<(Status, &'a [u8])
 /// Returns what the statuses of all lines report together.
 fn reported_by(alloc: Global, statuses: Statuses<'_>) -> Result<LineReport, OutOfMemory>
     ensures reported { IfOk result (λ it. reported_view it ≡ verdict_of statuses.entry []) }
-    ensures allocates { OnErr result (reported_names (verdict_of statuses.entry []) ≢ (None, None)) }
+    ensures allocates { OnErr result (reported_names (verdict_of statuses.entry []) ≢
+        (None, None)) }
 {
     match statuses {
         Statuses::None => Ok(nothing_but(Status::Unknown)),
@@ -180,7 +181,8 @@ fn nothing_but(status: Status) -> LineReport
 #[tactic(auto, using(crate::proofs::Fields::reported_names_of_key, crate::proofs::Fields::reported_names_of_signer))]
 fn reported_by_one(alloc: Global, status: Status, rest: &[u8]) -> Result<LineReport, OutOfMemory>
     ensures reported { IfOk result (λ it. reported_view it ≡ verdict ((status, rest.now) ∷ [])) }
-    ensures allocates { OnErr result (reported_names (verdict ((status, rest.now) ∷ [])) ≢ (None, None)) }
+    ensures allocates { OnErr result (reported_names (verdict ((status, rest.now) ∷ [])) ≢
+        (None, None)) }
 {
     let (keyword, following) = split_at_space(rest);
     let key = copy_unless_empty(alloc, keyword)?;

@@ -117,7 +117,8 @@ pub fn sign_payload<R: Runner>(
     options: Options,
     runner: &mut R,
 ) -> Result<BString, Error>
-    ensures signed { Signs R.runs (sign_plan (sign_options_view options) payload.now) runner.old result
+    ensures signed { Signs R.runs (sign_plan (sign_options_view options) payload.now)
+        runner.old result
         runner.new }
     ensures allocates { AllocatesForCalls (sign_plan (sign_options_view options) payload.now)
         (sign_view result) }

@@ -59,7 +59,8 @@ impl<'a> TreeRefIter<'a> {
         ensures found { IfSome result (λ entry.
             HasFirstNamed self.entry.hash_kind (remaining_tree_bytes self.entry) name.now
             (entry_view entry)) }
-        ensures none { IfNone result (HasNoEntryNamed self.entry.hash_kind (remaining_tree_bytes self.entry)
+        ensures none { IfNone result (HasNoEntryNamed self.entry.hash_kind
+            (remaining_tree_bytes self.entry)
             name.now) }
     {
         for item in self {

@@ -38,7 +38,8 @@ pub fn tag_recognition_agrees()
 ///
 /// Writing a borrowed tag rejects nothing if its name is valid.
 pub fn tag_reencodes_identically()
-    ensures same_bytes { (kind : Kind) (content : List ℕ) (tag : TagLines) → DecodesToTag kind content tag
+    ensures same_bytes { (kind : Kind) (content : List ℕ) (tag : TagLines)
+        → DecodesToTag kind content tag
         → PreservesBody tag → encode_tag tag ≡ content }
     ensures no_error { (tag : TagLines) → IsTagName tag.name
         → RejectsNothing (IsTagLinesError tag) }

@@ -117,7 +117,8 @@ fn payload_of(alloc: Global, tag: &Tag) -> Result<Vec<u8>, Error>
 
 /// Encodes a tag.
 fn tag_written(alloc: Global, tag: &Tag) -> Result<Vec<u8>, encode::Error>
-    ensures encoded { IfOk result (λ content. content.items ≡ encode_tag (owned_tag_lines tag.now)) }
+    ensures encoded { IfOk result (λ content. content.items
+        ≡ encode_tag (owned_tag_lines tag.now)) }
     ensures writable { OnOk result (RejectsNothing (IsOwnedTagError tag.now)) }
     ensures error { IfErr result (IsTagEncodingError tag.now) }
 {

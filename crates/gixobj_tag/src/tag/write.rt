@@ -327,7 +327,8 @@ fn write_name<S: Sink>(name: BStr<'_>, sink: &mut S) -> Result<(), encode::Error
     ensures valid { OnOk result (IsTagName (bstr_bytes name.entry)) }
     ensures error { IfErr result (IsWritingError (IsNameLineError (bstr_bytes name.entry))
         (S.view sink.old) (S.view sink.new) (encode_field (codes "tag") (bstr_bytes name.entry))) }
-    ensures room { IfErr result (LacksRoom (IsNameLineError (bstr_bytes name.entry)) (S.view sink.old)) }
+    ensures room { IfErr result (LacksRoom (IsNameLineError (bstr_bytes name.entry))
+        (S.view sink.old)) }
     ensures same_loan { S.loan sink.new ≡ S.loan sink.old }
 {
     let name = validated_name(name)?;
@@ -349,7 +350,8 @@ fn write_line<S: Sink>(prefix: &[u8], value: &[u8], sink: &mut S) -> io::Result<
 /// Writes a value and the newline that ends its line.
 #[inline(always)]
 fn write_value<S: Sink>(value: &[u8], sink: &mut S) -> io::Result<()>
-    ensures appended { AppendsOrFails result (S.view sink.old) (S.view sink.new) (encode_line value.now) }
+    ensures appended { AppendsOrFails result (S.view sink.old) (S.view sink.new)
+        (encode_line value.now) }
     ensures same_loan { S.loan sink.new ≡ S.loan sink.old }
 {
     sink.write_bytes(value)?;

@@ -118,7 +118,8 @@ impl<'a> BodyRef<'a> {
 
     /// Returns an iterator over the trailers of the block, in order. Making the iterator allocates nothing.
     pub fn trailers(&self, alloc: Global) -> Trailers<'a>
-        ensures { remaining_bytes result ≡ drop (trailer_block_start self.now) (bytes_of_body self.now) }
+        ensures { remaining_bytes result ≡ drop (trailer_block_start self.now)
+            (bytes_of_body self.now) }
     {
         Trailers::new(alloc, &self.body.as_bytes()[self.trailer_start..])
     }

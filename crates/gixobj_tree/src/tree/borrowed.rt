@@ -63,7 +63,8 @@ impl<'a> TreeRef<'a> {
         ensures found { IfSome result (λ e. Contains (tree_entries self.now) (entry_view e)
             × (name_cmp (entry_view e).name (is_tree_mode (entry_view e).mode)
             (bstr_bytes name.entry) is_dir ≡ Equal)) }
-        ensures by_key { IsWellFormed (tree_entries self.now) → IsByteFree slash (bstr_bytes name.entry)
+        ensures by_key { IsWellFormed (tree_entries self.now)
+            → IsByteFree slash (bstr_bytes name.entry)
             → MatchOption result (¬ HasKey (tree_entries self.now)
             (key_of (bstr_bytes name.entry) is_dir))
             (λ e. entry_key (entry_view e) ≡ key_of (bstr_bytes name.entry) is_dir) }

@@ -35,7 +35,7 @@ loop-entry-preserved c =
     let go = filters_step e (drop (i + 1) es) pending apart.0 so.filled (subst (IsFilteredTree pending) here so.is_filtered) in
     let tail : drop (i + 1) (slice_set es i new) ≡ drop (i + 1) es = drop-set-lt (i + 1) es i new (omega arith) in
     let made : new ≡ with_id e (first_id_if_named e.name pending) =
-      c.assign_id-pending.ensures.id ∙ ap (λ (x : EntryView). with_id x (first_id_if_named x.name pending))
+    c.assign_id-pending.ensures.id ∙ ap (λ (x : EntryView). with_id x (first_id_if_named x.name pending))
     (sym c.entry-item.is) in
     let on : after ≡ after_first_if_named e.name pending = c.assign_id-pending.ensures.remaining ∙ ap (λ (x : EntryView). after_first_if_named x.name pending)
     (sym c.entry-item.is) in

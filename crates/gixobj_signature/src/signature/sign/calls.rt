@@ -22,7 +22,8 @@ use std::alloc::Global;
 ///
 /// [`OutOfMemory`] if an allocation fails.
 pub fn gpg_call_of(alloc: Global, payload: &[u8], options: &Options) -> Result<Call, OutOfMemory>
-    ensures { IfOk result (λ it. call_view it ≡ gpg_call (sign_options_view options.now) payload.now) }
+    ensures { IfOk result (λ it. call_view it
+        ≡ gpg_call (sign_options_view options.now) payload.now) }
 {
     let key = options.signing_key.as_bytes();
     let pieces = [Text(b"--status-fd=2"), Text(b"-bsau"), Text(key)];
@@ -45,7 +46,8 @@ pub fn gpg_call_of(alloc: Global, payload: &[u8], options: &Options) -> Result<C
 ///
 /// [`OutOfMemory`] if an allocation fails.
 pub fn ssh_call_of(alloc: Global, payload: &[u8], options: &Options) -> Result<Call, OutOfMemory>
-    ensures { IfOk result (λ it. call_view it ≡ ssh_call (sign_options_view options.now) payload.now) }
+    ensures { IfOk result (λ it. call_view it
+        ≡ ssh_call (sign_options_view options.now) payload.now) }
 {
     match is_literal_ssh_key(options.signing_key.as_bytes()) {
         Some(key) => literal_call_of(alloc, key, payload, options),
@@ -55,7 +57,8 @@ pub fn ssh_call_of(alloc: Global, payload: &[u8], options: &Options) -> Result<C
 
 /// Makes the SSH call for a key in a file of the caller.
 fn path_call_of(alloc: Global, payload: &[u8], options: &Options) -> Result<Call, OutOfMemory>
-    ensures { IfOk result (λ it. call_view it ≡ path_call (sign_options_view options.now) payload.now) }
+    ensures { IfOk result (λ it. call_view it
+        ≡ path_call (sign_options_view options.now) payload.now) }
 {
     let mut words = git_arguments_of(alloc, &options.program_arguments, b"sign")?;
     let key = options.signing_key.as_bytes();

@@ -30,9 +30,11 @@ pub(crate) fn verify_open_pgp<R: Runner>(
     signed: &SignedData<'_>,
     runner: &mut R,
 ) -> Result<Outcome, Error>
-    ensures outcome { IsOutcomeOf R.runs (verify_plan (by_open_pgp (program_of by.now)) signature.now
+    ensures outcome { IsOutcomeOf R.runs (verify_plan
+        (by_open_pgp (program_of by.now)) signature.now
         (signed_bytes signed.now) (Some format)) runner.old result runner.new }
-    ensures allocates { AllocatesForCalls (verify_plan (by_open_pgp (program_of by.now)) signature.now
+    ensures allocates { AllocatesForCalls (verify_plan
+        (by_open_pgp (program_of by.now)) signature.now
         (signed_bytes signed.now) (Some format)) (verify_view result) }
 {
     match format {

@@ -32,9 +32,11 @@ pub(crate) fn verify_if_ssh<R: Runner>(
     signed: &SignedData<'_>,
     runner: &mut R,
 ) -> Result<Outcome, Error>
-    ensures outcome { IsOutcomeOf R.runs (verify_plan (by_ssh (ssh_program_of by.now) (ssh_of by.now))
+    ensures outcome { IsOutcomeOf R.runs (verify_plan
+        (by_ssh (ssh_program_of by.now) (ssh_of by.now))
         signature.now (signed_bytes signed.now) (Some format)) runner.old result runner.new }
-    ensures allocates { AllocatesForCalls (verify_plan (by_ssh (ssh_program_of by.now) (ssh_of by.now))
+    ensures allocates { AllocatesForCalls (verify_plan
+        (by_ssh (ssh_program_of by.now) (ssh_of by.now))
         signature.now (signed_bytes signed.now) (Some format)) (verify_view result) }
 {
     match format {
@@ -54,7 +56,8 @@ fn verify_ssh<R: Runner>(
     signed: &SignedData<'_>,
     runner: &mut R,
 ) -> Result<Outcome, Error>
-    ensures { IsOutcomeOf R.runs (ssh_verify_plan (ssh_program_of by.now) (ssh_of by.now) signature.now
+    ensures { IsOutcomeOf R.runs (ssh_verify_plan (ssh_program_of by.now)
+        (ssh_of by.now) signature.now
         (signed_bytes signed.now)) runner.old result runner.new }
 {
     let found = find_principals(alloc, by, signature, runner)?;
@@ -72,7 +75,8 @@ fn find_principals<R: Runner>(
     signature: &[u8],
     runner: &mut R,
 ) -> Result<Output, Error>
-    ensures { WasCalled R.runs (principals_call (ssh_program_of by.now) (ssh_of by.now) signature.now)
+    ensures { WasCalled R.runs (principals_call (ssh_program_of by.now)
+        (ssh_of by.now) signature.now)
         runner.old result runner.new }
 {
     let call = principals_call_of(alloc, by, signature)?;
@@ -172,7 +176,8 @@ fn check_novalidate<R: Runner>(
     signed: &SignedData<'_>,
     runner: &mut R,
 ) -> Result<Output, Error>
-    ensures { WasCalled R.runs (novalidate_call (ssh_program_of by.now) (ssh_of by.now) signature.now
+    ensures { WasCalled R.runs (novalidate_call (ssh_program_of by.now)
+        (ssh_of by.now) signature.now
         (signed_bytes signed.now)) runner.old result runner.new }
 {
     let call = novalidate_call_of(alloc, by, signature, signed)?;

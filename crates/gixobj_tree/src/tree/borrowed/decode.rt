@@ -34,7 +34,8 @@ impl<'a> TreeRef<'a> {
     /// }
     /// ```
     pub fn from_bytes(alloc: Global, bytes: &'a [u8], hash_kind: Kind) -> Result<TreeRef<'a>, Error>
-        ensures found { IfOk result (λ tree. DecodesToTree hash_kind bytes.now (tree_entries tree)) }
+        ensures found { IfOk result (λ tree. DecodesToTree hash_kind bytes.now
+            (tree_entries tree)) }
         ensures error { IfErr result (IsTreeDecodeError hash_kind bytes.now) }
     {
         let mut entries = Vec::new(alloc);

@@ -24,7 +24,8 @@ pub(crate) struct LineCounts {
 /// Returns what a line adds to the number of other lines.
 #[inline(always)]
 fn other_of(trailing: bool, indented: bool, above: bool) -> usize
-    ensures value { result ≡ (if trailing then 0 else if indented then (if above then 0 else 1) else 1) }
+    ensures value { result ≡ (if trailing then 0 else if indented then
+        (if above then 0 else 1) else 1) }
     ensures bounded { result ≤ 1 }
 {
     if trailing || indented && above { 0 } else { 1 }
@@ -63,7 +64,8 @@ impl LineCounts {
         requires others { self.others + 1 < 2 ^ 64 }
         ensures max_trailers { result.trailers ≤ self.trailers + 1 }
         ensures max_others { result.others ≤ self.others + 1 }
-        ensures trailers { result.trailers ≡ self.trailers + (if is_trailing_of line.now then 1 else 0) }
+        ensures trailers { result.trailers ≡ self.trailers +
+            (if is_trailing_of line.now then 1 else 0) }
         ensures others { result.others ≡ self.others + other_of_of self.above line.now }
         ensures recognised { result.recognised ≡ (self.recognised || is_recognised_of line.now) }
         ensures above { result.above ≡ (if is_trailing_of line.now then true

@@ -70,7 +70,8 @@ fn first_line_len(content: &[u8]) -> usize
 /// Splits the bytes after their first line, or returns `None` if they are empty.
 #[inline(always)]
 pub(crate) fn split_line(content: &[u8]) -> Option<(&[u8], &[u8])>
-    ensures { MatchOption result (content.now ≡ []) (λ it. IsFirstLine content.now it.0.now it.1.now) }
+    ensures { MatchOption result (content.now ≡ [])
+        (λ it. IsFirstLine content.now it.0.now it.1.now) }
 {
     if content.is_empty() {
         return None;

@@ -71,7 +71,8 @@ pub(crate) fn is_line_of_trailer(content: &[u8]) -> bool
 #[inline(always)]
 fn parts_after_token<'a>(content: &'a [u8], rest: &'a [u8]) -> Option<(&'a [u8], &'a [u8])>
     requires { length rest.now ≤ length content.now }
-    ensures { read_parts result ≡ with_value (take (length content.now - length rest.now) content.now)
+    ensures { read_parts result ≡ with_value (take
+        (length content.now - length rest.now) content.now)
         (after_gap_of rest.now) }
 {
     let value = skip_gap(rest)?;
