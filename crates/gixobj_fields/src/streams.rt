@@ -174,7 +174,6 @@ pub fn write_parts<S: Sink>(parts: &[&[u8]], sink: &mut S) -> io::Result<()>
 /// Appends two byte strings. It fails only if the sink has no room for both, and a proper prefix of both
 /// is then written. Only the sink may allocate.
 #[inline(always)]
-#[tactic(auto, using(crate::proofs::Appends::appends_prefix_first, crate::proofs::Appends::appends_or_fails_append))]
 pub(crate) fn write_both<S: Sink>(first: &[u8], second: &[u8], sink: &mut S) -> io::Result<()>
     ensures appended { AppendsOrFails result (S.view sink.old) (S.view sink.new) (first.now
         ++ second.now) }

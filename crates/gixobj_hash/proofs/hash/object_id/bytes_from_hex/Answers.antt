@@ -23,3 +23,27 @@ bytes-preserved g c = (
 pub returns-clause-value : goal.returns-clause-value
 returns-clause-value g c =
     decode_of-even _ (omega arith) ∙ decode_done _ c.bytes.bytes c.bytes.i (omega arith) (omega arith) c.bytes.invariant.1
+
+pub overflow_mul-i : goal.overflow_mul-i
+overflow_mul-i g c = omega arith
+
+pub bounds-hex-i : goal.bounds-hex-i
+bounds-hex-i g c = omega arith
+
+pub overflow_mul-bytes : goal.overflow_mul-bytes
+overflow_mul-bytes g c = omega arith
+
+pub overflow_mul-i-in-bytes : goal.overflow_mul-i-in-bytes
+overflow_mul-i-in-bytes g c = omega arith
+
+pub overflow_add-i : goal.overflow_add-i
+overflow_add-i g c = omega arith
+
+pub bounds-hex-i-in-bytes : goal.bounds-hex-i-in-bytes
+bounds-hex-i-in-bytes g c = omega arith
+
+pub overflow_add-bytes : goal.overflow_add-bytes
+overflow_add-bytes g c = omega arith
+
+pub bounds-bytes-i : goal.bounds-bytes-i
+bounds-bytes-i g c = omega arith
