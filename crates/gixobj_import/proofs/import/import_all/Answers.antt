@@ -52,7 +52,7 @@ returns-in-Err g c =
       cause = import_cause_out_of_memory model g.S.Keep.keep_errors g.S.KeepCommit.keep_commit_errors old old c.args.steps.now done error
           c.no_list.ensures.error;
       encoding = encoding_cause_of_stopped model old c.args.steps.now done error old stops;
-      adds = stopped_adds model laws old old c.args.steps.now done error stops;
+      added = stopped_adds model laws old old c.args.steps.now done error stops;
       stored = tt;
       stored_done = stopped_stores model laws old old c.args.steps.now done error stops;
       commits = tt;
@@ -86,7 +86,7 @@ returns-in-Err-step g c =
           (subst (λ (n : ℕ). AreImported model c.args.importer.now (take n c.args.steps.now) done c.loop-step.importer) (sym inv.count) inv.imported)
           (c.in-Err-step.ensures {u = tt}).cause;
       encoding = encoding_cause_of_stopped model c.args.importer.now c.args.steps.now done c.in-Err-step.error c.step.new.self stops;
-      adds = stopped_adds model laws c.args.importer.now c.step.new.self c.args.steps.now done c.in-Err-step.error stops;
+      added = stopped_adds model laws c.args.importer.now c.step.new.self c.args.steps.now done c.in-Err-step.error stops;
       stored = tt;
       stored_done = stopped_stores model laws c.args.importer.now c.step.new.self c.args.steps.now done c.in-Err-step.error stops;
       commits = tt;
@@ -116,7 +116,7 @@ returns g c =
       error = tt;
       cause = tt;
       encoding = tt;
-      adds = steps_add model laws old new c.args.steps.now imported all;
+      added = steps_add model laws old new c.args.steps.now imported all;
       stored = steps_stored model laws old new c.args.steps.now imported all;
       stored_done = tt;
       commits = λ is. commits_of_new model laws old new c.args.steps.now imported all is final (adds_by_digest_nil final final refl);

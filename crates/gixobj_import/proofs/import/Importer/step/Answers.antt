@@ -35,7 +35,7 @@ returns-then-self g c =
       after_error = (c.if-self.true, refl);
       cause = inl tt;
       encoding = tt;
-      adds = adds_by_digest_nil objects objects refl;
+      added = adds_by_digest_nil objects objects refl;
       files = tt;
       bases = tt;
     }
@@ -54,7 +54,7 @@ returns-then-hold_a_write g c =
       );
       cause = inl tt;
       encoding = tt;
-      adds = adds_by_digest_nil objects objects refl;
+      added = adds_by_digest_nil objects objects refl;
       files = tt;
       bases = tt;
     }
@@ -86,7 +86,7 @@ returns-in-Err g c =
       cause = inl (subst (λ (es : List Edit). HasTreeCauseAfter model g.S.Keep.keep_errors old.hash old.editor es c.in-Err.error
           c.write_by_digests.new.editor) c.deref-2.ensures.value (c.in-Err.ensures {u = tt}).cause);
       encoding = encoding_cause_of_step_error model old c.args.step.now c.in-Err.error new rejected;
-      adds = rejected_adds model laws old new c.args.step.now c.in-Err.error rejected;
+      added = rejected_adds model laws old new c.args.step.now c.in-Err.error rejected;
       files = tt;
       bases = tt;
     }
@@ -123,7 +123,7 @@ returns-in-Err-kept g c =
       after_error = rejected;
       cause = inr (record { it = c.in-Ok.written; between = c.write_by_digests.new.editor; trees = trees; cause = (c.in-Err-kept.ensures {u = tt}).cause });
       encoding = encoding_cause_of_step_error model old c.args.step.now c.in-Err-kept.error new rejected;
-      adds = rejected_adds model laws old new c.args.step.now c.in-Err-kept.error rejected;
+      added = rejected_adds model laws old new c.args.step.now c.in-Err-kept.error rejected;
       files = tt;
       bases = tt;
     }
@@ -158,7 +158,7 @@ returns g c =
       after_error = tt;
       cause = tt;
       encoding = tt;
-      adds = step_adds model laws old c.args.step.now it new one;
+      added = step_adds model laws old c.args.step.now it new one;
       files = λ T n agrees. step_files model laws old c.args.step.now it new one T n agrees;
       bases = step_bases model laws old c.args.step.now it new one;
     }
