@@ -33,6 +33,12 @@ pub use Rattle.gixobj_editor.specs.Upserts
 pub use Rattle.gixobj_editor.specs.FailedEdits
 pub use Rattle.gixobj_editor.specs.Writes
 pub use Rattle.gixobj_editor.specs.declared as editor
+pub use Rattle.gixobj_entries.specs.Entries
+pub use Rattle.gixobj_entries.specs.EntryOrder
+pub use Rattle.gixobj_entries.specs.EntryViews
+pub use Rattle.gixobj_entries.specs.KeyOrder
+pub use Rattle.gixobj_entries.specs.TreeDecoding
+pub use Rattle.gixobj_entries.specs.declared as entries
 pub use Rattle.gixobj_error.specs.Writes as ToolErrors
 pub use Rattle.gixobj_error.specs.declared as error
 pub use Rattle.gixobj_fields.specs.FieldWriting
@@ -156,11 +162,7 @@ pub use Rattle.gixobj_tokens.specs.TagBodies
 pub use Rattle.gixobj_tokens.specs.TagSignatures
 pub use Rattle.gixobj_tokens.specs.TagTokens
 pub use Rattle.gixobj_tokens.specs.declared as tokens
-pub use Rattle.gixobj_tree.specs.Entries
-pub use Rattle.gixobj_tree.specs.KeyOrder
-pub use Rattle.gixobj_tree.specs.EntryOrder
 pub use Rattle.gixobj_tree.specs.Rewriting as TreeRewriting
-pub use Rattle.gixobj_tree.specs.TreeDecoding
 pub use Rattle.gixobj_tree.specs.TreeEncoding
 pub use Rattle.gixobj_tree.specs.TreeSizes
 pub use Rattle.gixobj_tree.specs.TreeViews

@@ -18,7 +18,7 @@ use Rattle.gix_object.specs.WellFormed.{EachLater, IsWellFormed}
 use Rattle.gix_object.specs.hash.hash.kind.Kind.{Kind}
 use Rattle.gix_object.specs.hash.hash.object_id.ObjectId.{ObjectId}
 use Rattle.gix_object.specs.hash.kind.Kind.TheVariants as kind
-use Rattle.gixobj_tree.proofs.OneEntry.{entry_unique}
+use Rattle.gixobj_entries.proofs.OneEntry.{entry_unique}
 
 -- ---- names lead to one entry
 

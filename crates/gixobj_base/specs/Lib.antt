@@ -2,6 +2,10 @@ pub use Rattle.gixobj_actor.specs.Actor
 pub use Rattle.gixobj_actor.specs.ActorWriting
 pub use Rattle.gixobj_actor.specs.Date
 pub use Rattle.gixobj_actor.specs.declared as actor
+pub use Rattle.gixobj_entries.specs.Entries
+pub use Rattle.gixobj_entries.specs.EntryOrder
+pub use Rattle.gixobj_entries.specs.KeyOrder
+pub use Rattle.gixobj_entries.specs.declared as entries
 pub use Rattle.gixobj_fields.specs.FieldWriting
 pub use Rattle.gixobj_fields.specs.HeaderReading
 pub use Rattle.gixobj_fields.specs.HeaderFormat
@@ -20,9 +24,6 @@ pub use Rattle.gixobj_hash.specs.declared as hash
 pub use Rattle.gixobj_mode.specs.Mode
 pub use Rattle.gixobj_mode.specs.ModeNumber
 pub use Rattle.gixobj_mode.specs.declared as mode
-pub use Rattle.gixobj_tree.specs.Entries
-pub use Rattle.gixobj_tree.specs.KeyOrder
-pub use Rattle.gixobj_tree.specs.EntryOrder
 pub use Rattle.gixobj_tree.specs.TreeEncoding
 pub use Rattle.gixobj_tree.specs.TreeSizes
 pub use Rattle.gixobj_tree.specs.WellFormed

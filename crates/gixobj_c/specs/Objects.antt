@@ -8,8 +8,8 @@ use Rattle.gixobj_hash.specs.declared.kind.Kind.{Kind}
 use Rattle.gixobj_hash.specs.declared.kind.Kind.TheVariants as kind
 use Rattle.gixobj_line.specs.Commit.{IsCommit}
 use Rattle.gixobj_line.specs.TagPrefix.{IsTag}
-use Rattle.gixobj_tree.specs.Entries.{EntryView}
-use Rattle.gixobj_tree.specs.TreeDecoding.{DecodesToTree}
+use Rattle.gixobj_entries.specs.Entries.{EntryView}
+use Rattle.gixobj_entries.specs.TreeDecoding.{DecodesToTree}
 
 -- writes the id of the object of these kinds and this content; an unknown number leaves the buffer unchanged
 abbrev pub IsIdCall : Option hash.Kind → Option Kind → List ℕ → List ℕ → List ℕ → ℕ → Type 0

@@ -6,8 +6,8 @@ use Rattle.gixobj_c.specs.declared.trees.TreeEntry.{TreeEntry}
 use Rattle.gixobj_hash.specs.Hash.{id_bytes}
 use Rattle.gixobj_hash.specs.declared.hash.kind.Kind.{Kind}
 use Rattle.gixobj_mode.specs.Mode.{mode_value}
-use Rattle.gixobj_tree.specs.Entries.{EntryView}
-use Rattle.gixobj_tree.specs.TreeDecoding.{BeginsWithEntry, BeginsWithNoEntry}
+use Rattle.gixobj_entries.specs.Entries.{EntryView}
+use Rattle.gixobj_entries.specs.TreeDecoding.{BeginsWithEntry, BeginsWithNoEntry}
 
 -- an entry of this mode begins at the offset, its name and its id have these positions, and the rest begins at `next`
 pub record IsEntryAt (hash : Kind) (tree : List ℕ) (offset : ℕ) (out : TreeEntry) : Type 0 where

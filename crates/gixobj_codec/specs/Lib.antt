@@ -17,6 +17,9 @@ pub use Rattle.gixobj_commit.specs.Mergetags
 pub use Rattle.gixobj_commit.specs.RemainingParents
 pub use Rattle.gixobj_commit.specs.Rewriting
 pub use Rattle.gixobj_commit.specs.declared as commit
+pub use Rattle.gixobj_entries.specs.EntryViews
+pub use Rattle.gixobj_entries.specs.TreeDecoding
+pub use Rattle.gixobj_entries.specs.declared as entries
 pub use Rattle.gixobj_fields.specs.FieldWriting
 pub use Rattle.gixobj_fields.specs.HeaderReading
 pub use Rattle.gixobj_fields.specs.HeaderFormat
@@ -92,6 +95,5 @@ pub use Rattle.gixobj_tokens.specs.TagSignatures
 pub use Rattle.gixobj_tokens.specs.TagTokens
 pub use Rattle.gixobj_tokens.specs.declared as tokens
 pub use Rattle.gixobj_tree.specs.Rewriting as TreeRewriting
-pub use Rattle.gixobj_tree.specs.TreeDecoding
 pub use Rattle.gixobj_tree.specs.TreeViews
 pub use Rattle.gixobj_tree.specs.declared as tree

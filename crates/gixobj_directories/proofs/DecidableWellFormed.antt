@@ -7,8 +7,8 @@ use Rattle.gixobj_files.specs.Editing.{same_name}
 use Rattle.gixobj_hash.proofs.Splits.{no_split_of_byte_free}
 use Rattle.gixobj_hash.specs.ByteStrings.{IsByteFree}
 use Rattle.gixobj_tree.proofs.DecidableTrees.{splits_at_or_byte_free}
-use Rattle.gixobj_tree.specs.Entries.{EntryView}
-use Rattle.gixobj_tree.specs.KeyOrder.{ComesBefore, entry_key}
+use Rattle.gixobj_entries.specs.Entries.{EntryView}
+use Rattle.gixobj_entries.specs.KeyOrder.{ComesBefore, entry_key}
 use Rattle.gixobj_tree.specs.WellFormed.{EachLater, IsEntryName, IsWellFormed}
 
 -- a statement holds, or it doesn't

@@ -12,8 +12,8 @@ use Rattle.gixobj_files.specs.Files.{ContainsEntry, Path}
 use Rattle.gixobj_files.proofs.HasTrees.{entry_of_has_tree}
 use Rattle.gixobj_files.proofs.OpenedFiles.{same_name_false}
 use Rattle.gixobj_sorted.proofs.Sublists.{all_both, all_weaker}
-use Rattle.gixobj_tree.specs.Entries.{EntryView}
-use Rattle.gixobj_tree.specs.KeyOrder.{ComesBefore, entry_key, key_of}
+use Rattle.gixobj_entries.specs.Entries.{EntryView}
+use Rattle.gixobj_entries.specs.KeyOrder.{ComesBefore, entry_key, key_of}
 use Rattle.gixobj_mode.specs.Mode.{is_tree_mode}
 use Rattle.gixobj_open.specs.declared.open.Child.{Child}
 use Rattle.gixobj_open.specs.Children.{pairs_after_next, next_child}

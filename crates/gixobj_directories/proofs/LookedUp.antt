@@ -11,10 +11,10 @@ use Rattle.gixobj_files.specs.Tables.{AgreesWithStore}
 use Rattle.gixobj_hash.specs.Hash.{id_bytes}
 use Rattle.gixobj_hash.specs.declared.hash.kind.Kind.{Kind}
 use Rattle.gixobj_hash.specs.declared.hash.object_id.ObjectId.{ObjectId}
-use Rattle.gixobj_tree.proofs.EntryRuns.{yields_entries_iff}
-use Rattle.gixobj_tree.proofs.OneEntry.{entry_unique}
-use Rattle.gixobj_tree.specs.TreeDecoding.{BeginsWithEntry, EntryStep, DecodesToTree, YieldsEntries}
-use Rattle.gixobj_tree.specs.Entries.{EntryView}
+use Rattle.gixobj_entries.proofs.EntryRuns.{yields_entries_iff}
+use Rattle.gixobj_entries.proofs.OneEntry.{entry_unique}
+use Rattle.gixobj_entries.specs.TreeDecoding.{BeginsWithEntry, EntryStep, DecodesToTree, YieldsEntries}
+use Rattle.gixobj_entries.specs.Entries.{EntryView}
 use Rattle.gixobj_directories.specs.LookedUp.{IsDirectoryIn, IsFileIn, IsLookedUp}
 use Rattle.gixobj_directories.specs.Openings.{AreTreesOf}
 

@@ -10,8 +10,8 @@ use Rattle.std.specs.declared.vec.Vec.{Vec}
 use Rattle.gixobj_files.specs.Editing.{has_tree}
 use Rattle.gixobj_sorted.specs.Pieces.{AreNonEmpty, joined}
 use Rattle.gixobj_sorted.proofs.Joined.{are_non_empty_set, non_empty_at}
-use Rattle.gixobj_tree.specs.Entries.{EntryView}
-use Rattle.gixobj_tree.specs.KeyOrder.{key_of}
+use Rattle.gixobj_entries.specs.Entries.{EntryView}
+use Rattle.gixobj_entries.specs.KeyOrder.{key_of}
 use Rattle.gixobj_tree.specs.WellFormed.{EachLater}
 use Rattle.gixobj_open.specs.LeafTrees.{leaf_trees}
 use Rattle.gixobj_directories.specs.Moves.{moved_on, moved_out}

@@ -6,9 +6,9 @@ use Rattle.gixobj_hash.specs.declared.hash.object_id.ObjectId.{ObjectId}
 use Rattle.gixobj_hash.specs.declared.kind.Kind.{Kind}
 use Rattle.gixobj_hash.specs.declared.kind.Kind.TheVariants.{Blob, Commit, Tag, Tree}
 use Rattle.gixobj_tree.proofs.DecidableTrees.{decodes_to_tree_or_malformed}
-use Rattle.gixobj_tree.proofs.EntryRuns.{tree_unique}
-use Rattle.gixobj_tree.specs.TreeDecoding.{DecodesToTree}
-use Rattle.gixobj_tree.specs.Entries.{EntryView}
+use Rattle.gixobj_entries.proofs.EntryRuns.{tree_unique}
+use Rattle.gixobj_entries.specs.TreeDecoding.{DecodesToTree}
+use Rattle.gixobj_entries.specs.Entries.{EntryView}
 use Rattle.gixobj_tree.specs.WellFormed.{IsWellFormed}
 use Rattle.gixobj_directories.proofs.DecidableWellFormed.{is_well_formed_or_not}
 use Rattle.gixobj_directories.specs.Openings.{AreTreesOf, NamesTree}

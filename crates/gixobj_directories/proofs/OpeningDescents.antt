@@ -3,7 +3,7 @@
 use Rattle.std.proofs.Common.{Bool, ◌≡◌, ◌<◌, ◌+◌, drop, get_or, length, take, ◌≢◌, ◌∙◌, ℕ, true, false, cond, List, [], ◌∷◌, ◌++◌, Option, Some, None, refl, sym, ap, subst}
 use Rattle.std.proofs.lemmas.List.{append-nil, append_assoc, take-append-drop}
 use Rattle.gixobj_hash.specs.declared.hash.object_id.ObjectId.{ObjectId}
-use Rattle.gixobj_tree.specs.Entries.{EntryView}
+use Rattle.gixobj_entries.specs.Entries.{EntryView}
 use Rattle.gixobj_files.specs.Editing.{same_name}
 use Rattle.gixobj_files.specs.Bases.{base_opened}
 use Rattle.gixobj_files.specs.Edits.{Opens, counted, arrived, down, found, only_open, stops, with_dir, with_path}

@@ -7,7 +7,7 @@ use Rattle.std.specs.Option.{option_copied}
 use denote.Ref.{Bor}
 use Rattle.std.specs.List.{AllByRecursion, find}
 use Rattle.std.specs.Cmp.Lexicographic.{bytes_decides}
-use Rattle.gixobj_tree.specs.Entries.{EntryView}
+use Rattle.gixobj_entries.specs.Entries.{EntryView}
 use Rattle.gixobj_tree.specs.WellFormed.{EachLater, IsWellFormed}
 use Rattle.gixobj_mode.specs.Mode.{is_tree_mode}
 use Rattle.gixobj_hash.specs.declared.hash.object_id.ObjectId.{ObjectId}

@@ -1,7 +1,7 @@
 -- If each open directory is well-formed, each emitted tree may be stored.
 use Rattle.std.proofs.Common.{ℕ, List, [], ◌∷◌}
 use Rattle.std.specs.List.{AllByRecursion}
-use Rattle.gixobj_tree.specs.Entries.{EntryView, Pair}
+use Rattle.gixobj_entries.specs.Entries.{EntryView, Pair}
 use Rattle.gixobj_files.specs.Emission.{EmitsBelow, EmitsEntries, left_out_if_empty, end, of_entries, unopened, unchanged, written}
 use Rattle.gixobj_files.specs.Opening.{Dirs, in_dir}
 use Rattle.gixobj_files.proofs.StillOpened.{AreFormed}

@@ -9,8 +9,8 @@ use Rattle.std.proofs.lemmas.List.Elements.{recursion_from_All}
 use Rattle.std.proofs.lemmas.List.Sums.{AllPass-from_list_all}
 use denote.Ref.{Bor}
 use Rattle.bstr.specs.Owned.{bstring_bytes}
-use Rattle.gixobj_tree.specs.Entries.{EntryView, Pair}
-use Rattle.gixobj_tree.specs.EntryOrder.{same_tree}
+use Rattle.gixobj_entries.specs.Entries.{EntryView, Pair}
+use Rattle.gixobj_entries.specs.EntryOrder.{same_tree}
 use Rattle.gixobj_files.specs.Editing.{has_tree, same_name}
 use Rattle.gixobj_files.specs.Files.{is_null}
 use Rattle.gixobj_files.specs.Emission.{EmitsBelow, EmitsEntries, end, of_entries, unopened}

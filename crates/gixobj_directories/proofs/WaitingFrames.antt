@@ -5,7 +5,7 @@ use Rattle.std.specs.Prelude.{reverse}
 use Rattle.std.specs.List.{FoldsTo}
 use Rattle.std.proofs.lemmas.List.{reverse-append}
 use denote.Ref.{Bor}
-use Rattle.gixobj_tree.specs.Entries.{EntryView, Pair}
+use Rattle.gixobj_entries.specs.Entries.{EntryView, Pair}
 use Rattle.gixobj_files.specs.Edits.{raised}
 use Rattle.gixobj_files.specs.Emission.{EmitsBelow, EmitsEntries, of_entries}
 use Rattle.gixobj_directories.specs.Frames.{EmitsAfter, EmitsNext, HasEmitted, HasResumed, HasStepped, Waits, frame_weight, held_entries, written_entries, remaining_entries}

@@ -1,7 +1,7 @@
 -- What the written tree of a directory emits after the directories in it: nothing, unless it has entries and is changed;
 -- for `written_id`.
 use Rattle.std.proofs.Common.{◌≡◌, ◌≢◌, ◌∙◌, ◌+◌, ℕ, List, [], ◌∷◌, ◌++◌, Some, sym, ap, subst, arith, append-nil}
-use Rattle.gixobj_tree.specs.Entries.{EntryView, Pair}
+use Rattle.gixobj_entries.specs.Entries.{EntryView, Pair}
 use Rattle.gixobj_hash.specs.declared.hash.object_id.ObjectId.{ObjectId}
 use Rattle.gixobj_files.specs.Emission.{entry_unless_null}
 use Rattle.gixobj_files.specs.Opening.{Dirs}

@@ -3,7 +3,7 @@ use Rattle.std.specs.Prelude.{List, Err, Ok, Result}
 use Rattle.std.specs.Fn.{CalledAt, Mut}
 use Rattle.std.specs.List.{FoldsTo}
 use denote.Ref.{Bor}
-use Rattle.gixobj_tree.specs.Entries.{EntryView, Pair}
+use Rattle.gixobj_entries.specs.Entries.{EntryView, Pair}
 use Rattle.gixobj_hash.specs.declared.hash.object_id.ObjectId.{ObjectId}
 pub use Rattle.gixobj_open.specs.Paths.{AreNames, names_of}
 pub use Rattle.gixobj_open.specs.Storable.{IsStorable}

@@ -3,8 +3,8 @@ use Rattle.std.specs.Prelude.{◌≡◌, ◌≢◌, ◌+◌, ◌<◌, ℕ, List,
 use Rattle.std.specs.List.{AllByRecursion}
 use Rattle.std.specs.declared.alloc.Global.{Global}
 use Rattle.std.specs.declared.vec.Vec.{Vec}
-use Rattle.gixobj_tree.specs.Entries.{EntryView, Pair}
-use Rattle.gixobj_tree.specs.KeyOrder.{ComesBefore}
+use Rattle.gixobj_entries.specs.Entries.{EntryView, Pair}
+use Rattle.gixobj_entries.specs.KeyOrder.{ComesBefore}
 use Rattle.gixobj_tree.specs.WellFormed.{EachLater, IsWellFormed}
 use Rattle.gixobj_sorted.specs.Pieces.{AreNonEmpty}
 use Rattle.gixobj_files.specs.Editing.{has_tree}

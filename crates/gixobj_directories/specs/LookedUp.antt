@@ -6,7 +6,7 @@ use Rattle.gixobj_files.specs.Files.{Table, is_null, resolves_to}
 use Rattle.gixobj_files.specs.Tables.{IsNeverLookedUp}
 use Rattle.gixobj_hash.specs.declared.hash.kind.Kind.{Kind}
 use Rattle.gixobj_hash.specs.declared.kind.Kind.TheVariants.{Tree}
-use Rattle.gixobj_tree.specs.Entries.{EntryView}
+use Rattle.gixobj_entries.specs.Entries.{EntryView}
 use Rattle.gixobj_mode.specs.Mode.{is_tree_mode}
 use Rattle.gixobj_directories.specs.Openings.{NamesTree}
 

@@ -10,8 +10,8 @@ use Rattle.gixobj_hash.specs.declared.kind.Kind.TheVariants.{Tree}
 use Rattle.gixobj_keep.specs.ExistingTrees.{IsExistingTreeError, NamesSuch}
 use Rattle.gixobj_keep.specs.declared.find.existing_object.Error as found
 use Rattle.gixobj_keep.specs.declared.find.existing_object.Error.TheVariants as object
-use Rattle.gixobj_tree.specs.TreeDecoding.{DecodesToTree}
-use Rattle.gixobj_tree.specs.Entries.{EntryView}
+use Rattle.gixobj_entries.specs.TreeDecoding.{DecodesToTree}
+use Rattle.gixobj_entries.specs.Entries.{EntryView}
 use Rattle.gixobj_tree.specs.WellFormed.{IsWellFormed}
 use Rattle.gixobj_directories.specs.declared.opening.Error.{Error}
 use Rattle.gixobj_directories.specs.declared.opening.Error.TheVariants as opening

@@ -1,6 +1,6 @@
 -- Leaf trees that are moved to the pairs of a write after its last call, and what they add to the pairs.
 use Rattle.std.specs.Prelude.{◌≡◌, ◌≢◌, ◌⊎◌, List, [], ◌∷◌, ◌++◌, Option, Some, None}
-use Rattle.gixobj_tree.specs.Entries.{EntryView, Pair}
+use Rattle.gixobj_entries.specs.Entries.{EntryView, Pair}
 use Rattle.gixobj_open.specs.LeafTrees.{leaf_trees}
 use Rattle.gixobj_open.specs.declared.open.Child.{Child}
 

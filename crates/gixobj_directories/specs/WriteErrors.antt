@@ -1,7 +1,7 @@
 -- A write of open directories: which one is next, what one entry emits, and the errors of a write.
 use Rattle.std.specs.Prelude.{◌≡◌, ◌+◌, ℕ, List, [], ◌∷◌, ◌++◌, Option, Some, None}
 use Rattle.std.specs.List.{FoldsTo}
-use Rattle.gixobj_tree.specs.Entries.{EntryView, Pair}
+use Rattle.gixobj_entries.specs.Entries.{EntryView, Pair}
 use Rattle.gixobj_hash.specs.declared.hash.object_id.ObjectId.{ObjectId}
 use Rattle.gixobj_files.specs.Emission.{EmitsEntries, entry_unless_null}
 use Rattle.gixobj_files.specs.Opening.{Dirs, in_dir}

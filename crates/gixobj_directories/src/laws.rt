@@ -7,8 +7,8 @@ ghost use Rattle.gixobj_directories.specs.Openings.{AreTreesOf};
 ghost use Rattle.gixobj_files.specs.Files.{Files, Table, Trees};
 ghost use Rattle.gixobj_files.specs.Tables.{AgreesWithStore};
 ghost use Rattle.gixobj_hash.specs.declared.hash.kind.Kind.{Kind};
-ghost use Rattle.gixobj_tree.specs.TreeDecoding.{DecodesToTree};
-ghost use Rattle.gixobj_tree.specs.Entries.{EntryView};
+ghost use Rattle.gixobj_entries.specs.TreeDecoding.{DecodesToTree};
+ghost use Rattle.gixobj_entries.specs.Entries.{EntryView};
 
 /// Every store has a map of the well-formed trees that it names.
 ///

@@ -1,7 +1,7 @@
 //! Opening of the directories on a path, whose trees are looked up in a store.
 ghost use Rattle.std.specs.Prelude.{◌≡◌, ◌↔◌, ◌∷◌, ◌≤◌, [], IfErr, IfNone, IfOk, IfSome, IsTrue, List, OnErr, OnOk, Option, Some, false, length, reverse, take, true};
 ghost use Rattle.bstr.specs.Owned.{bstring_bytes};
-ghost use Rattle.gixobj_tree.specs.Entries.{EntryView};
+ghost use Rattle.gixobj_entries.specs.Entries.{EntryView};
 ghost use Rattle.gixobj_tree.specs.WellFormed.{IsWellFormed};
 ghost use Rattle.gixobj_mode.specs.Mode.{is_tree_mode};
 ghost use Rattle.gixobj_files.specs.Edits.{Finds, IsEntryOf, Opens, counted};

@@ -4,7 +4,7 @@
 ghost use Rattle.std.specs.Prelude.{◌≡◌, ◌≢◌, ◌+◌, ◌++◌, ◌∷◌, ◌<◌, ◌≤◌, [], ℕ, IfErr, IfOk, List, OnErr, OnOk};
 ghost use Rattle.std.specs.List.{FoldsTo};
 ghost use Rattle.std.specs.Option.{option_copied};
-ghost use Rattle.gixobj_tree.specs.Entries.{EntryView, Pair};
+ghost use Rattle.gixobj_entries.specs.Entries.{EntryView, Pair};
 ghost use Rattle.gixobj_files.specs.Edits.{raised};
 ghost use Rattle.gixobj_files.specs.Emission.{EmitsBelow};
 ghost use Rattle.gixobj_files.specs.WrittenTrees.{SharesBase, so_far};

@@ -3,7 +3,7 @@ ghost use Rattle.std.specs.Prelude.{◌≡◌, ◌≢◌, ◌↔◌, ◌+◌, �
 ghost use Rattle.std.specs.Fn.{CalledAt};
 ghost use Rattle.std.specs.List.{FoldsTo};
 ghost use Rattle.std.specs.Option.{option_copied};
-ghost use Rattle.gixobj_tree.specs.Entries.{EntryView, Pair};
+ghost use Rattle.gixobj_entries.specs.Entries.{EntryView, Pair};
 ghost use Rattle.gixobj_tree.specs.WellFormed.{IsWellFormed};
 ghost use Rattle.gixobj_files.specs.Bases.{edited_bases};
 ghost use Rattle.gixobj_files.specs.Edits.{only_open, raised, with_path};

@@ -25,7 +25,7 @@ use Rattle.gixobj_fields.specs.declared.encode.Error.{Error}
 use Rattle.gixobj_files.specs.History.{Step, ensure}
 use Rattle.gixobj_files.specs.State.{State}
 use Rattle.gixobj_store.specs.Stores.{StoreModel}
-use Rattle.gixobj_tree.specs.Entries.{Pair}
+use Rattle.gixobj_entries.specs.Entries.{Pair}
 use Rattle.gixobj_tree.specs.TreeEncoding.{IsEncodableTree}
 
 abbrev pub IsDone : Reply Error → Type 0

@@ -31,7 +31,7 @@ use Rattle.gixobj_keep.specs.declared.memory.Memory.{Memory}
 use Rattle.gixobj_script.proofs.WiderRelations.{run_wider}
 use Rattle.gixobj_script.specs.Edits.{memory_model}
 use Rattle.gixobj_store.specs.Stores.{Objects}
-use Rattle.gixobj_tree.specs.Entries.{EntryView}
+use Rattle.gixobj_entries.specs.Entries.{EntryView}
 use Rattle.gixobj_tree.specs.TreeEncoding.{IsDigestResult}
 
 -- ---- the replies

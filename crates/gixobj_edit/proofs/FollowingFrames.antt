@@ -10,7 +10,7 @@ use Rattle.gixobj_edit.specs.Frames.{IsFrameError, IsFramesEncodeError, encode_f
 use Rattle.gixobj_edit.specs.declared.failure.Failure.{Failure}
 use Rattle.gixobj_edit.specs.declared.failure.Failure.TheVariants as failure
 use Rattle.gixobj_edit.proofs.EditRuns.{IsEncodable}
-use Rattle.gixobj_tree.specs.Entries.{EntryView, Pair}
+use Rattle.gixobj_entries.specs.Entries.{EntryView, Pair}
 use Rattle.gixobj_tree.specs.TreeEncoding.{IsEncodableTree}
 
 contains_flat_map : {X A : Type 0} (f : X → List A) (xs : List X) (i : ℕ) (x : X) (a : A) → i < length xs → x ≡ get_or xs i x → Contains (f x) a

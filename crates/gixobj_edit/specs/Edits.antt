@@ -37,7 +37,7 @@ use Rattle.gixobj_mode.specs.Mode.{mode_of_kind}
 use Rattle.gixobj_script.specs.Edits.{IsScriptRunError, memory_model}
 use Rattle.gixobj_script.specs.Scripts.{IsFirstBad, IsScript}
 use Rattle.gixobj_script.specs.declared.script.ScriptError.TheVariants as parsing
-use Rattle.gixobj_tree.specs.Entries.{EntryView}
+use Rattle.gixobj_entries.specs.Entries.{EntryView}
 use Rattle.gixobj_tree.specs.TreeEncoding.{IsDigestResult, IsEncodableTree}
 
 -- ---- the run

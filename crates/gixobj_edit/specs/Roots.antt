@@ -11,7 +11,7 @@ use Rattle.gixobj_hash.specs.declared.hash.object_id.ObjectId.{ObjectId}
 use Rattle.gixobj_keep.specs.ExistingTrees.{IsExistingTreeError}
 use Rattle.gixobj_keep.specs.declared.find.existing_object.Error as existing
 use Rattle.gixobj_store.specs.Stores.{Objects}
-use Rattle.gixobj_tree.specs.Entries.{EntryView}
+use Rattle.gixobj_entries.specs.Entries.{EntryView}
 
 -- the bytes are this id, and it is of this hash function
 abbrev pub IsIdOf : Kind → List ℕ → ObjectId → Type 0

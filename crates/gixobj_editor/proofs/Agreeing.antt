@@ -9,8 +9,8 @@ use Rattle.gixobj_files.specs.Files.{Table, Trees}
 use Rattle.gixobj_files.specs.Tables.{AgreesWithPairs, IsConsistentWith, IsNeverLookedUp}
 use Rattle.gixobj_hash.specs.declared.hash.object_id.ObjectId.{ObjectId}
 use Rattle.gixobj_keep.specs.Keeping.{tree_object, with_tree, with_trees}
-use Rattle.gixobj_tree.specs.TreeDecoding.{DecodesToTree}
-use Rattle.gixobj_tree.specs.Entries.{EntryView, Pair}
+use Rattle.gixobj_entries.specs.TreeDecoding.{DecodesToTree}
+use Rattle.gixobj_entries.specs.Entries.{EntryView, Pair}
 use Rattle.gixobj_editor.specs.Commands.{emitted_pairs, kept_pairs}
 use Rattle.gixobj_editor.specs.RunTables.{AgreesWithObjects, AgreesWithRun, DecodesToItself}
 use Rattle.gixobj_editor.specs.declared.reply.Reply.{Reply}

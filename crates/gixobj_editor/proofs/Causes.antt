@@ -20,7 +20,7 @@ use Rattle.gixobj_files.specs.State.{State}
 use Rattle.gixobj_keep.specs.Keeping.{IsStoreErrorAt, KeepErrors}
 use Rattle.gixobj_keep.specs.declared.keeping.KeepError.{KeepError}
 use Rattle.gixobj_store.specs.Stores.{Objects, StoreModel}
-use Rattle.gixobj_tree.specs.Entries.{Pair}
+use Rattle.gixobj_entries.specs.Entries.{Pair}
 
 -- the cause of a write whose borrowed trees aren't all kept, in the store that was borrowed
 pub cause_of_borrowed_trees : {S : Type 0} (objects : S → Objects) (errors : KeepErrors S) (old start : S) (trees lent : List Pair) (count : ℕ)

@@ -14,7 +14,7 @@ use Rattle.gixobj_files.proofs.OpenPrefixes.{removed_dirs_keep_prefix, upserted_
 use Rattle.gixobj_files.proofs.StillOpenedOpenings.{opens_keeps_open_lists}
 use Rattle.gixobj_hash.specs.Hash.{null_id}
 use Rattle.gixobj_hash.specs.declared.hash.object_id.ObjectId.{ObjectId}
-use Rattle.gixobj_tree.specs.Entries.{EntryView}
+use Rattle.gixobj_entries.specs.Entries.{EntryView}
 use Rattle.gixobj_editor.specs.Cursors.{from_root}
 use Rattle.gixobj_editor.specs.Removals.{IsRemovedUpTo}
 use Rattle.gixobj_files.specs.Bases.{opened_bases}

@@ -25,7 +25,7 @@ use Rattle.gixobj_files.proofs.UnopenedCounts.{requested_count}
 use Rattle.gixobj_hash.specs.Hash.{null_id}
 use Rattle.gixobj_hash.specs.declared.hash.kind.Kind.{Kind}
 use Rattle.gixobj_hash.specs.declared.hash.object_id.ObjectId.{ObjectId}
-use Rattle.gixobj_tree.specs.Entries.{EntryView}
+use Rattle.gixobj_entries.specs.Entries.{EntryView}
 use Rattle.gixobj_tree.specs.WellFormed.{IsEntryName}
 use Rattle.gixobj_editor.specs.Cursors.{IsEnsured, IsCursorError}
 use Rattle.gixobj_editor.specs.Upserts.{IsFirstNameError}

@@ -1,7 +1,7 @@
 -- Directories on a path that are opened in part, by the end of the opening: for `Edited`, `Removing`, `RemovedAt` and
 -- `CursorPrefixes`.
 use Rattle.std.proofs.Common.{◌≡◌, ◌∙◌, ◌≤◌, ℕ, Bool, List, [], ◌∷◌, ◌++◌, Option, Some, None, append-nil, append_assoc, arith, length, refl, sym, ap, subst}
-use Rattle.gixobj_tree.specs.Entries.{EntryView}
+use Rattle.gixobj_entries.specs.Entries.{EntryView}
 use Rattle.gixobj_hash.specs.declared.hash.object_id.ObjectId.{ObjectId}
 use Rattle.gixobj_files.specs.Edits.{Opens, arrived, counted}
 use Rattle.gixobj_files.specs.Files.{Path, Trees}

@@ -3,7 +3,7 @@ use Rattle.std.proofs.Common.{◌≡◌, ◌+◌, ℕ, zero, suc, List, [], ◌�
 use Rattle.std.proofs.Math.Seq.{take-append-add}
 use Rattle.gixobj_store.specs.Stores.{Objects}
 use Rattle.gixobj_files.specs.Files.{Table}
-use Rattle.gixobj_tree.specs.Entries.{Pair}
+use Rattle.gixobj_entries.specs.Entries.{Pair}
 use Rattle.gixobj_files.specs.Tables.{AgreesWithPairs}
 use Rattle.gixobj_keep.proofs.Trees.{with_trees_append}
 use Rattle.gixobj_keep.specs.Keeping.{with_trees}

@@ -24,7 +24,7 @@ use Rattle.gixobj_files.specs.Files.{NamedFiles, Path, Table, Trees}
 use Rattle.gixobj_files.specs.Opening.{Dirs, HasAt, IsOpened}
 use Rattle.gixobj_files.specs.State.{DirMap, State, open_bases, open_dirs, root_alone}
 use Rattle.gixobj_files.specs.Tables.{AgreesWithPairs, AgreesWithStore}
-use Rattle.gixobj_tree.specs.Entries.{EntryView, Pair}
+use Rattle.gixobj_entries.specs.Entries.{EntryView, Pair}
 use Rattle.gixobj_editor.proofs.Keeping.{AgreesThroughout, agrees_throughout_prefix, agrees_throughout_suffix}
 use Rattle.gixobj_editor.proofs.Named.{agrees_with_run_prefix, agrees_later, agrees_with_written_pairs, ensured_keeps, command_keeps, edit_keeps, names_history}
 use Rattle.gixobj_editor.proofs.Reported.{mode_of_kind_not_tree, plain_history_of_prefix, known_by_trees, is_up_to_of_same_files}

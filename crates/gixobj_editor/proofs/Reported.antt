@@ -23,7 +23,7 @@ use Rattle.gixobj_files.specs.PlainHistory.{HasNoTree, NoFiles}
 use Rattle.gixobj_files.specs.State.{DirMap, EditorFiles, State, root_alone}
 use Rattle.gixobj_files.specs.Tables.{AgreesWithPairs, HasOneIdPerTree}
 use Rattle.gixobj_hash.specs.declared.hash.object_id.ObjectId.{ObjectId}
-use Rattle.gixobj_tree.specs.Entries.{EntryView, Pair}
+use Rattle.gixobj_entries.specs.Entries.{EntryView, Pair}
 use Rattle.gixobj_mode.specs.Mode.{is_tree_mode, mode_of_kind}
 use Rattle.gixobj_mode.specs.declared.entry_kind.EntryKind.{EntryKind}
 use Rattle.gixobj_mode.specs.declared.entry_kind.EntryKind.TheVariants as kind

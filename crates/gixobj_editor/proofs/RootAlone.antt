@@ -1,6 +1,6 @@
 -- An editor whose root alone is open.
 use Rattle.std.proofs.Common.{◌≡◌, ℕ, List, [], sym, subst}
-use Rattle.gixobj_tree.specs.Entries.{EntryView}
+use Rattle.gixobj_entries.specs.Entries.{EntryView}
 use Rattle.gixobj_tree.specs.WellFormed.{IsWellFormed}
 use Rattle.gixobj_open.specs.Nested.{Opened, dirs_of, opened}
 use Rattle.gixobj_open.proofs.Steps.{dirs_of_childless}

@@ -16,7 +16,7 @@ use Rattle.gixobj_files.specs.Tables.{AgreesWithPairs}
 use Rattle.gixobj_files.proofs.BelowPrefix.{with_path_at_prefix, is_opened_with_only}
 use Rattle.gixobj_files.proofs.CursorFiles.{written_id_files_below_prefix, write_keeps_files}
 use Rattle.gixobj_hash.specs.declared.hash.kind.Kind.{Kind}
-use Rattle.gixobj_tree.specs.Entries.{EntryView, Pair}
+use Rattle.gixobj_entries.specs.Entries.{EntryView, Pair}
 use Rattle.gixobj_directories.specs.declared.write.Written.{Written}
 use Rattle.gixobj_editor.specs.Cursors.{IsWrittenBelow}
 use Rattle.gixobj_editor.proofs.Edited.{EditedSo, OpenedOn, map_is_opened, map_bases, map_dirs, map_is_opened_on, only_edited_bases_of_map, map_bases_eq, map_dirs_eq, state_of}

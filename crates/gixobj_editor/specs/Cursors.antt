@@ -18,7 +18,7 @@ use Rattle.gixobj_files.specs.Tables.{AgreesWithPairs, AgreesWithStore}
 use Rattle.gixobj_files.specs.Unopened.{with_empty_name, unopened_count}
 use Rattle.gixobj_hash.specs.Hash.{null_id}
 use Rattle.gixobj_hash.specs.declared.hash.object_id.ObjectId.{ObjectId}
-use Rattle.gixobj_tree.specs.Entries.{EntryView, Pair}
+use Rattle.gixobj_entries.specs.Entries.{EntryView, Pair}
 use Rattle.gixobj_editor.specs.Upserts.{IsFirstNameError, IsNameError, IsUnopenedError, EditErrors}
 use Rattle.gixobj_editor.specs.FailedEdits.{IsFailedEditIn}
 use Rattle.gixobj_editor.specs.declared.editor.error.Error.{Error}

@@ -14,7 +14,7 @@ use Rattle.gixobj_files.specs.State.{EditorFiles, State, open_bases, open_dirs}
 use Rattle.gixobj_files.specs.Tables.{AgreesWithStore}
 use Rattle.gixobj_files.specs.Unopened.{unopened_count}
 use Rattle.gixobj_hash.specs.declared.hash.object_id.ObjectId.{ObjectId}
-use Rattle.gixobj_tree.specs.Entries.{EntryView}
+use Rattle.gixobj_entries.specs.Entries.{EntryView}
 use Rattle.gixobj_editor.specs.declared.editor.error.Error.{Error}
 use Rattle.gixobj_editor.specs.declared.editor.error.Error.TheVariants as error
 

@@ -26,7 +26,7 @@ use Rattle.gixobj_files.specs.State.{EditorFiles, State, open_bases, open_dirs, 
 use Rattle.gixobj_files.specs.Unopened.{with_empty_name}
 use Rattle.gixobj_hash.specs.declared.hash.object_id.ObjectId.{ObjectId}
 use Rattle.gixobj_keep.specs.Keeping.{StopsKeepingAt, with_trees}
-use Rattle.gixobj_tree.specs.Entries.{EntryView, Pair}
+use Rattle.gixobj_entries.specs.Entries.{EntryView, Pair}
 use Rattle.gixobj_tree.specs.WellFormed.{IsWellFormed}
 use Rattle.gixobj_tree.specs.TreeEncoding.{IsEncodableTree}
 use Rattle.gixobj_mode.specs.Mode.{mode_of_kind}

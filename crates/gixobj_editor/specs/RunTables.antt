@@ -7,8 +7,8 @@ use Rattle.gixobj_files.specs.Tables.{AgreesWithPairs, IsNeverLookedUp}
 use Rattle.gixobj_hash.specs.Hash.{id_kind}
 use Rattle.gixobj_hash.specs.declared.hash.object_id.ObjectId.{ObjectId}
 use Rattle.gixobj_keep.specs.Keeping.{with_trees}
-use Rattle.gixobj_tree.specs.TreeDecoding.{DecodesToTree}
-use Rattle.gixobj_tree.specs.Entries.{EntryView, Pair}
+use Rattle.gixobj_entries.specs.TreeDecoding.{DecodesToTree}
+use Rattle.gixobj_entries.specs.Entries.{EntryView, Pair}
 use Rattle.gixobj_tree.specs.WellFormed.{IsWellFormed}
 use Rattle.gixobj_tree.specs.TreeEncoding.{encode_tree}
 use Rattle.gixobj_editor.specs.Commands.{emitted_pairs, kept_pairs}

@@ -9,7 +9,7 @@ use Rattle.gixobj_files.specs.Files.{NamedFiles, Path, SameFiles, Table}
 use Rattle.gixobj_files.specs.Emission.{Emits}
 use Rattle.gixobj_files.specs.State.{EditorFiles, State, open_bases, open_dirs, root_alone}
 use Rattle.gixobj_files.specs.Tables.{AgreesWithPairs}
-use Rattle.gixobj_tree.specs.Entries.{EntryView, Pair}
+use Rattle.gixobj_entries.specs.Entries.{EntryView, Pair}
 
 -- the effect of a successful write. The emitted pairs end with that of the root, and the closure was called on these
 -- trees alone, in this order. Then the root alone is open, with the last emitted tree. The named tree has the editor's

@@ -1,7 +1,7 @@
 -- The base of each open directory is what its entry's id names, in every table that has agreed with the store. The base
 -- of a null id is empty.
 use Rattle.std.proofs.Common.{◌≡◌, inl, inr, true, false, List, [], refl, sym, subst, ◌∙◌, Some}
-use Rattle.gixobj_tree.specs.Entries.{EntryView}
+use Rattle.gixobj_entries.specs.Entries.{EntryView}
 use Rattle.gixobj_hash.specs.declared.hash.object_id.ObjectId.{ObjectId}
 use Rattle.gixobj_files.specs.Edits.{Finds}
 use Rattle.gixobj_files.specs.Files.{Table, Trees, is_null}

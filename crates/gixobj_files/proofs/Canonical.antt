@@ -5,8 +5,8 @@ use Rattle.std.specs.Prelude.{MatchOption}
 use Rattle.std.specs.List.{AllByRecursion}
 use Rattle.std.proofs.lemmas.Cmp.{nat_list_cmp_total}
 use Rattle.std.proofs.lemmas.List.Elements.{All-contains}
-use Rattle.gixobj_tree.specs.Entries.{EntryView, Pair, entry_of}
-use Rattle.gixobj_tree.specs.KeyOrder.{ComesBefore, entry_key}
+use Rattle.gixobj_entries.specs.Entries.{EntryView, Pair, entry_of}
+use Rattle.gixobj_entries.specs.KeyOrder.{ComesBefore, entry_key}
 use Rattle.gixobj_tree.specs.WellFormed.{EachLater, IsWellFormed}
 use Rattle.gixobj_mode.specs.Mode.{is_tree_mode, tree_type}
 use Rattle.gixobj_hash.specs.declared.hash.object_id.ObjectId.{ObjectId}

@@ -4,7 +4,7 @@ use Rattle.std.proofs.Common.{◌≡◌, ◌≢◌, ◌∙◌, inl, inr, ⊎_eli
 use Rattle.std.specs.Prelude.{IsFalse}
 use Rattle.std.specs.Cmp.Lexicographic.{bytes_decides}
 use Rattle.std.specs.List.{AllByRecursion}
-use Rattle.gixobj_tree.specs.Entries.{EntryView, Pair}
+use Rattle.gixobj_entries.specs.Entries.{EntryView, Pair}
 use Rattle.gixobj_hash.specs.Hash.{null_id}
 use Rattle.gixobj_hash.specs.declared.hash.kind.Kind.TheVariants.{Sha1}
 use Rattle.gixobj_hash.specs.declared.hash.object_id.ObjectId.{ObjectId}

@@ -1,7 +1,7 @@
 -- An opening of directories as the trees of their ids changes no file, and an edit at the path may follow: for the
 -- editor's edits and `Based`.
 use Rattle.std.proofs.Common.{◌≡◌, ◌≢◌, inl, inr, ℕ, zero, suc, false, cond, List, [], ◌∷◌, ◌++◌, refl, sym, ap, subst, ◌∙◌, Option, Some, None}
-use Rattle.gixobj_tree.specs.Entries.{EntryView}
+use Rattle.gixobj_entries.specs.Entries.{EntryView}
 use Rattle.gixobj_mode.specs.Mode.{is_tree_mode}
 use Rattle.gixobj_hash.specs.Hash.{id_kind}
 use Rattle.gixobj_hash.specs.declared.hash.object_id.ObjectId.{ObjectId}

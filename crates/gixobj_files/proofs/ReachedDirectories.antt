@@ -1,6 +1,6 @@
 -- The directories that an opening reaches, and what is found there: for removals by the editor and for `OpenPrefixes`.
 use Rattle.std.proofs.Common.{◌≡◌, ◌≢◌, ◌⊎◌, inl, inr, ℕ, List, [], ◌∷◌, ◌++◌, refl, sym, ap, subst, ◌∙◌, Option, Some, None}
-use Rattle.gixobj_tree.specs.Entries.{EntryView}
+use Rattle.gixobj_entries.specs.Entries.{EntryView}
 use Rattle.gixobj_hash.specs.Hash.{id_kind}
 use Rattle.gixobj_hash.specs.declared.hash.object_id.ObjectId.{ObjectId}
 use Rattle.gixobj_files.specs.Edits.{Finds, IsNotLookedUp, Opens, arrived, down, entry_at, first_entry_of, found, only_open, stops, with_dir}

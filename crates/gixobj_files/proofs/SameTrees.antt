@@ -9,9 +9,9 @@ use Rattle.gixobj_hash.specs.Hash.Order.{id_cmp}
 use Rattle.gixobj_hash.specs.declared.hash.object_id.ObjectId.{ObjectId}
 use Rattle.gixobj_hash.specs.declared.hash.object_id.ObjectId.TheVariants.{Sha1, Sha256}
 use Rattle.gixobj_files.proofs.Canonical.{entries_named_alike_eq}
-use Rattle.gixobj_tree.specs.Entries.{EntryView}
-use Rattle.gixobj_tree.specs.EntryOrder.{same_entry, same_tree}
-use Rattle.gixobj_tree.specs.EntryOrderLaws.{tree_equiv}
+use Rattle.gixobj_entries.specs.Entries.{EntryView}
+use Rattle.gixobj_entries.specs.EntryOrder.{same_entry, same_tree}
+use Rattle.gixobj_entries.specs.EntryOrderLaws.{tree_equiv}
 
 id_eq_of_compare : (x y : ObjectId) → is_eq (id_cmp x y) ≡ true → x ≡ y
 id_eq_of_compare (Sha1 a) (Sha1 b) h = ap Sha1 ((bytes_decides a b).0 (texts_ties a b

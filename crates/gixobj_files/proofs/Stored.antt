@@ -1,6 +1,6 @@
 -- The invariant of stored entries after an edit.
 use Rattle.std.proofs.Common.{◌≡◌, ◌⊎◌, ◌≤◌, ◌+◌, ◌-◌, ℕ, Bool, true, false, cond, List, [], ◌∷◌, inl, inr, length, refl, ap, arith}
-use Rattle.gixobj_tree.specs.Entries.{EntryView}
+use Rattle.gixobj_entries.specs.Entries.{EntryView}
 use Rattle.gixobj_tree.specs.WellFormed.{IsWellFormed}
 use Rattle.gixobj_sorted.specs.Pieces.{AreNonEmpty, joined}
 use Rattle.gixobj_files.specs.OpenEntries.{IsStored}

@@ -10,9 +10,10 @@ use Rattle.std.proofs.lemmas.Bool.{false_from_ne_true}
 use Rattle.std.proofs.lemmas.List.Elements.{filter-append}
 use Rattle.gixobj_hash.specs.ByteStrings.{IsByteFree}
 use Rattle.gixobj_mode.specs.Mode.{is_tree_mode}
-use Rattle.gixobj_tree.proofs.WellFormed.{eq_of_slice_cmp_equal, no_slash_at_end, slice_cmp_equal_of_eq}
-use Rattle.gixobj_tree.specs.Entries.{EntryView}
-use Rattle.gixobj_tree.specs.KeyOrder.{entry_key, key_of}
+use Rattle.gixobj_entries.proofs.TiedBytes.{eq_of_slice_cmp_equal, slice_cmp_equal_of_eq}
+use Rattle.gixobj_tree.proofs.WellFormed.{no_slash_at_end}
+use Rattle.gixobj_entries.specs.Entries.{EntryView}
+use Rattle.gixobj_entries.specs.KeyOrder.{entry_key, key_of}
 use Rattle.gixobj_tree.specs.WellFormed.{IsEntryName, IsWellFormed}
 use Rattle.gixobj_sorted.proofs.Neighbours.{find_none_with_item}
 use Rattle.gixobj_sorted.proofs.Sublists.{all_weaker}

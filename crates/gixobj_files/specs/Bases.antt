@@ -1,7 +1,7 @@
 -- The base of each open directory but the root: the tree that its entry's id named when it was opened. The base of the
 -- root is ignored.
 use Rattle.std.specs.Prelude.{◌≡◌, true, IsFalse, List, [], ◌∷◌, ◌++◌, Option, Some, None}
-use Rattle.gixobj_tree.specs.Entries.{EntryView}
+use Rattle.gixobj_entries.specs.Entries.{EntryView}
 use Rattle.gixobj_files.specs.Files.{Path, Table, is_null}
 use Rattle.gixobj_files.specs.Opening.{Dirs, HasAt, IsOpened}
 

@@ -1,6 +1,6 @@
 -- Tables that agree with a store and with emitted trees.
 use Rattle.std.specs.Prelude.{◌≡◌, ◌≢◌, ◌⊎◌, true, List, [], ◌∷◌, All, Contains, IsFalse, Option, Some, None}
-use Rattle.gixobj_tree.specs.Entries.{EntryView, Pair}
+use Rattle.gixobj_entries.specs.Entries.{EntryView, Pair}
 use Rattle.gixobj_hash.specs.Hash.{id_kind, id_of}
 use Rattle.gixobj_hash.specs.declared.hash.kind.Kind.{Kind}
 use Rattle.gixobj_hash.specs.declared.hash.object_id.ObjectId.{ObjectId}

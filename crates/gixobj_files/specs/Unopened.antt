@@ -1,7 +1,7 @@
 -- The directories on a path that aren't open and would be looked up.
 use Rattle.std.specs.Prelude.{ℕ, Bool, not, ◌&&◌, ◌++◌, true, false, List, [], ◌∷◌, Option, Some, None, if◌then◌else◌, length, map}
 use Rattle.std.specs.List.{filter}
-use Rattle.gixobj_tree.specs.Entries.{EntryView}
+use Rattle.gixobj_entries.specs.Entries.{EntryView}
 use Rattle.gixobj_mode.specs.Mode.{is_tree_mode}
 use Rattle.gixobj_hash.specs.Hash.{id_bytes, id_kind, id_of}
 use Rattle.gixobj_hash.specs.declared.hash.object_id.ObjectId.{ObjectId}

@@ -1,6 +1,6 @@
 -- A written tree next to its base: its entries so far.
 use Rattle.std.specs.Prelude.{◌≢◌, ◌≤◌, List, ◌++◌, length, take}
-use Rattle.gixobj_tree.specs.Entries.{EntryView}
+use Rattle.gixobj_entries.specs.Entries.{EntryView}
 use Rattle.gixobj_hash.specs.declared.hash.object_id.ObjectId.{ObjectId}
 use Rattle.gixobj_files.specs.declared.written_tree.WrittenTree.{WrittenTree}
 use Rattle.gixobj_files.specs.declared.written_tree.WrittenTree.TheVariants.{Prefix, Copied}

@@ -1,7 +1,7 @@
 //! Laws of tables and histories of edits. Each function does nothing: its contract is the law.
 ghost use Rattle.std.specs.Prelude.{◌↔◌, ◌≤◌, ℕ, All, List, length};
 ghost use Rattle.std.specs.FinMap as map;
-ghost use Rattle.gixobj_tree.specs.Entries.{EntryView, Pair};
+ghost use Rattle.gixobj_entries.specs.Entries.{EntryView, Pair};
 ghost use Rattle.gixobj_tree.specs.WellFormed.{IsWellFormed};
 ghost use Rattle.gixobj_hash.specs.declared.hash.object_id.ObjectId.{ObjectId};
 ghost use Rattle.gixobj_files.specs.Files.{Path, Table, Trees};

@@ -4,7 +4,7 @@ ghost use Rattle.std.specs.List.{find};
 ghost use Rattle.std.specs.Option.{option_copied};
 ghost use Rattle.bstr.specs.Owned.{bstring_bytes};
 ghost use Rattle.gixobj_mode.specs.Mode.{is_tree_mode, mode_bits};
-ghost use Rattle.gixobj_tree.specs.KeyOrder.{key_of};
+ghost use Rattle.gixobj_entries.specs.KeyOrder.{key_of};
 ghost use Rattle.gixobj_tree.specs.WellFormed.{IsEntryName, IsWellFormed};
 ghost use Rattle.gixobj_sorted.specs.Pieces.{AreNonEmpty, HoldsAtPiece, IsPieced, joined, pieces_at_most};
 ghost use Rattle.gixobj_files.specs.Editing.{same_name, with_entry, without};
@@ -40,7 +40,7 @@ pub struct Entries {
 
 impl Model for Entries {
     ghost use Rattle.std.specs.Prelude.{List, vec_capacity};
-    ghost use Rattle.gixobj_tree.specs.Entries.{EntryView};
+    ghost use Rattle.gixobj_entries.specs.Entries.{EntryView};
 
     ghost Value = { List EntryView };
 

@@ -1,7 +1,7 @@
 //! The written tree of an open directory, built next to the base that the directory was opened with.
 ghost use Rattle.std.specs.Prelude.{◌≡◌, ◌≢◌, ◌↔◌, ◌++◌, ◌∷◌, [], ◌==◌, IfOk, IsTrue, List, OnErr, OnOk, Some, length, slice_get};
-ghost use Rattle.gixobj_tree.specs.Entries.{EntryView};
-ghost use Rattle.gixobj_tree.specs.EntryOrder.{same_entry};
+ghost use Rattle.gixobj_entries.specs.Entries.{EntryView};
+ghost use Rattle.gixobj_entries.specs.EntryOrder.{same_entry};
 ghost use Rattle.gixobj_files.specs.WrittenTrees.{SharesBase, so_far, with_id};
 
 use crate::entries::{copies, copy};

@@ -21,7 +21,7 @@ use Rattle.gixobj_tag.proofs.Recognized as recognized
 use Rattle.gixobj_tag.specs.TagFormat.{DecodesToTag}
 use Rattle.gixobj_tag.specs.TagViews.{tag_lines}
 use Rattle.gixobj_tag.specs.declared.tag.TagRef.{TagRef}
-use Rattle.gixobj_tree.specs.TreeDecoding.{DecodesToTree}
+use Rattle.gixobj_entries.specs.TreeDecoding.{DecodesToTree}
 use Rattle.gixobj_tree.specs.TreeViews.{tree_entries}
 use Rattle.gixobj_tree.specs.declared.tree.borrowed.TreeRef.{TreeRef}
 use Rattle.gixobj_tree.specs.declared.blob.BlobRef.{BlobRef}

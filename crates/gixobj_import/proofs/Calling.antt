@@ -14,7 +14,7 @@ use Rattle.gixobj_fields.specs.declared.encode.Error as encode
 use Rattle.gixobj_files.specs.State.{State}
 use Rattle.gixobj_hash.specs.declared.hash.kind.Kind as hash
 use Rattle.gixobj_hash.specs.declared.hash.object_id.ObjectId.{ObjectId}
-use Rattle.gixobj_tree.specs.Entries.{EntryView, Pair}
+use Rattle.gixobj_entries.specs.Entries.{EntryView, Pair}
 use Rattle.gixobj_editor.specs.Replies.{Denies, ReturnsTreeId}
 use Rattle.gixobj_import.specs.OutCauses.{ReturnsDigests}
 use Rattle.gixobj_tree.specs.TreeEncoding.{IsDigestResult}

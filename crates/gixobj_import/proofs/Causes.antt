@@ -20,7 +20,7 @@ use Rattle.gixobj_import.specs.declared.import.Importer.{Importer}
 use Rattle.gixobj_import.specs.declared.import.Step.{Step}
 use Rattle.gixobj_keep.specs.Keeping.{KeepCommitErrors, KeepErrors}
 use Rattle.gixobj_store.specs.Stores.{StoreModel}
-use Rattle.gixobj_tree.specs.Entries.{EntryView, Pair}
+use Rattle.gixobj_entries.specs.Entries.{EntryView, Pair}
 
 -- an importer keeps its hash kind
 pub imported_same_hash : {S : Type 0} (model : StoreModel S) (old new : Importer S) (steps : List Step) (imported : List Imported)

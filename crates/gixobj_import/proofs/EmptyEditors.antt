@@ -8,7 +8,7 @@ use Rattle.gixobj_files.specs.Files.{Path, SameFiles, Table}
 use Rattle.gixobj_files.specs.Opening.{HasAt, OpenFiles}
 use Rattle.gixobj_files.specs.State.{DirMap, EditorFiles, State, open_bases, open_dirs, root_alone}
 use Rattle.gixobj_hash.specs.declared.hash.object_id.ObjectId.{ObjectId}
-use Rattle.gixobj_tree.specs.Entries.{EntryView}
+use Rattle.gixobj_entries.specs.Entries.{EntryView}
 use Rattle.gixobj_files.specs.PlainHistory.{NoFiles}
 
 -- ---- a root without entries that is open alone

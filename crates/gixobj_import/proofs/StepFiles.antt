@@ -8,7 +8,7 @@ use Rattle.gixobj_files.specs.Files.{FileSet, NamedFiles, SameFiles, Table}
 use Rattle.gixobj_files.specs.History as history
 use Rattle.gixobj_files.specs.History.{FilesAfter}
 use Rattle.gixobj_files.specs.State.{EditorFiles, State, open_bases, open_dirs}
-use Rattle.gixobj_tree.specs.Entries.{Pair}
+use Rattle.gixobj_entries.specs.Entries.{Pair}
 use Rattle.gixobj_files.specs.Tables.{AgreesWithPairs}
 use Rattle.gixobj_hash.specs.declared.hash.object_id.ObjectId.{ObjectId}
 use Rattle.gixobj_keep.specs.Keeping.{with_commit, with_trees}

@@ -6,7 +6,7 @@ use Rattle.gixobj_files.specs.State.{State}
 use Rattle.gixobj_hash.specs.declared.hash.kind.Kind as hash
 use Rattle.gixobj_hash.specs.declared.hash.object_id.ObjectId.{ObjectId}
 use Rattle.gixobj_keep.specs.Keeping.{with_trees}
-use Rattle.gixobj_tree.specs.Entries.{Pair}
+use Rattle.gixobj_entries.specs.Entries.{Pair}
 use Rattle.gixobj_import.specs.Edited.{AreDone}
 use Rattle.gixobj_import.specs.Imports.{before, with_imports}
 use Rattle.gixobj_import.specs.Steps.{AreImported, IsStepFailed, IsStepEditsError, IsStepError, IsStepCommitError, IsStepWriteError, Stops}

@@ -9,8 +9,8 @@ use Rattle.gixobj_hash.specs.declared.hash.object_id.ObjectId.{ObjectId}
 use Rattle.gixobj_hash.specs.declared.kind.Kind.TheVariants.{Tree}
 use Rattle.gixobj_keep.specs.Keeping.{commit_object, tree_object, with_commit, with_tree, with_trees}
 use Rattle.gixobj_editor.specs.RunTables.{AgreesWithObjects, DecodesToItself}
-use Rattle.gixobj_tree.specs.TreeDecoding.{DecodesToTree}
-use Rattle.gixobj_tree.specs.Entries.{EntryView, Pair}
+use Rattle.gixobj_entries.specs.TreeDecoding.{DecodesToTree}
+use Rattle.gixobj_entries.specs.Entries.{EntryView, Pair}
 use Rattle.gixobj_import.specs.Commits.{encode_step}
 use Rattle.gixobj_import.specs.Imports.{AgreesWithImports, pairs_of_imports, with_imports}
 use Rattle.gixobj_import.specs.declared.import.Imported.{Imported}

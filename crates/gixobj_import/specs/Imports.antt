@@ -7,7 +7,7 @@ use Rattle.gixobj_files.specs.Bases.{HasBases}
 use Rattle.gixobj_files.specs.Files.{FileSet, NamedFiles, SameFiles, Table}
 use Rattle.gixobj_files.specs.History as history
 use Rattle.gixobj_files.specs.State.{EditorFiles, State, new_state, open_bases, open_dirs}
-use Rattle.gixobj_tree.specs.Entries.{Pair}
+use Rattle.gixobj_entries.specs.Entries.{Pair}
 use Rattle.gixobj_files.specs.Tables.{AgreesWithPairs}
 use Rattle.gixobj_hash.specs.Hash.{id_of}
 use Rattle.gixobj_hash.specs.declared.hash.kind.Kind as hash

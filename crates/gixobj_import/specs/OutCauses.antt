@@ -15,7 +15,7 @@ use Rattle.gixobj_import.specs.Edited.{AreDone}
 use Rattle.gixobj_import.specs.declared.import.ImportError.{ImportError}
 use Rattle.gixobj_import.specs.declared.import.ImportError.TheVariants as import
 use Rattle.gixobj_store.specs.Stores.{StoreModel}
-use Rattle.gixobj_tree.specs.Entries.{EntryView, Pair}
+use Rattle.gixobj_entries.specs.Entries.{EntryView, Pair}
 use Rattle.gixobj_tree.specs.TreeEncoding.{IsDigestResult}
 
 -- each result of the closure is one of computing a tree's digest, now and after any calls that it answered with ids

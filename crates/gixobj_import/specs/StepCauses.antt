@@ -19,7 +19,7 @@ use Rattle.gixobj_import.specs.declared.import.Imported.{Imported}
 use Rattle.gixobj_import.specs.declared.import.Importer.{Importer}
 use Rattle.gixobj_import.specs.declared.import.Step.{Step}
 use Rattle.gixobj_store.specs.Stores.{StoreModel}
-use Rattle.gixobj_tree.specs.Entries.{EntryView}
+use Rattle.gixobj_entries.specs.Entries.{EntryView}
 use Rattle.gixobj_tree.specs.TreeEncoding.{IsDigestResult}
 
 -- Write: if the payload isn't out of memory, it is the error of computing a tree's digest

@@ -11,7 +11,7 @@ ghost use Rattle.gixobj_import.specs.Steps.{AreImported, IsImported, IsStepError
 ghost use Rattle.gixobj_import.specs.contracts.import.Importer.{the_row};
 ghost use Rattle.gixobj_keep.specs.Keeping.{with_trees};
 ghost use Rattle.gixobj_store.specs.Stores.{store_model};
-ghost use Rattle.gixobj_tree.specs.Entries.{Pair};
+ghost use Rattle.gixobj_entries.specs.Entries.{Pair};
 
 use crate::commits::keep_commit_of;
 use crate::edits::hold_a_write;

@@ -15,7 +15,7 @@ use Rattle.gixobj_hash.specs.declared.hash.object_id.ObjectId.{ObjectId}
 use Rattle.gixobj_hash.specs.declared.kind.Kind as object
 use Rattle.gixobj_hash.specs.declared.kind.Kind.TheVariants.{Commit, Tree}
 use Rattle.gixobj_keep.specs.Keeping.{commit_object, tree_object, with_commit, with_tree}
-use Rattle.gixobj_tree.specs.Entries.{EntryView}
+use Rattle.gixobj_entries.specs.Entries.{EntryView}
 use Rattle.gixobj_tree.specs.TreeEncoding.{encode_tree}
 use Rattle.gixobj_keep.specs.Memory.{memory_objects, stored_object}
 use Rattle.gixobj_keep.specs.declared.memory.Memory.{Memory}

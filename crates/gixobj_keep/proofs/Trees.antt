@@ -3,7 +3,7 @@ use Rattle.std.proofs.Common.{◌≡◌, ◌<◌, ◌+◌, ℕ, All, List, [], �
 use Rattle.std.proofs.Math.Seq.{take-suc}
 use Rattle.std.proofs.lemmas.List.Elements.{All-append, All-cons, All-nil}
 use Rattle.gixobj_store.specs.Stores.{Objects}
-use Rattle.gixobj_tree.specs.Entries.{Pair}
+use Rattle.gixobj_entries.specs.Entries.{Pair}
 use Rattle.gixobj_keep.specs.Keeping.{with_tree, with_trees}
 use Rattle.gixobj_tree.specs.TreeEncoding.{IsEncodableTree}
 

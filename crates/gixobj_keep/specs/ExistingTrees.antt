@@ -9,8 +9,8 @@ use Rattle.gixobj_hash.specs.declared.kind.Kind.TheVariants as kind
 use Rattle.gixobj_line.specs.Commit.{IsCommit, IsMalformedCommit}
 use Rattle.gixobj_line.specs.TagPrefix.{IsTag}
 use Rattle.gixobj_store.specs.Stores.{Names, Objects, IsFindError, StoredObject, named}
-use Rattle.gixobj_tree.specs.Entries.{EntryView}
-use Rattle.gixobj_tree.specs.TreeDecoding.{DecodesToTree, IsTreeDecodeError}
+use Rattle.gixobj_entries.specs.Entries.{EntryView}
+use Rattle.gixobj_entries.specs.TreeDecoding.{DecodesToTree, IsTreeDecodeError}
 use Rattle.gixobj_keep.specs.declared.find.existing_object.Error as decoded
 use Rattle.gixobj_keep.specs.declared.find.existing_object.Error.TheVariants as object
 

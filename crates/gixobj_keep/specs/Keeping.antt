@@ -5,7 +5,7 @@ use Rattle.gixobj_store.specs.Stores.{Objects, StoredObject}
 use Rattle.gixobj_hash.specs.Hash.{id_kind}
 use Rattle.gixobj_hash.specs.declared.hash.object_id.ObjectId.{ObjectId}
 use Rattle.gixobj_hash.specs.declared.kind.Kind.TheVariants.{Commit, Tree}
-use Rattle.gixobj_tree.specs.Entries.{EntryView, Pair}
+use Rattle.gixobj_entries.specs.Entries.{EntryView, Pair}
 use Rattle.gixobj_tree.specs.TreeEncoding.{encode_tree, IsUnencodableTree, IsEncodableTree}
 use Rattle.gixobj_keep.specs.declared.keeping.KeepError.{KeepError}
 use Rattle.gixobj_keep.specs.declared.keeping.KeepError.TheVariants.{OutOfMemory, Store}

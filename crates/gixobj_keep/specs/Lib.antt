@@ -4,7 +4,7 @@ pub mod Memory
 pub use Rattle.gixobj_line.specs.Commit
 pub use Rattle.gixobj_line.specs.TagPrefix
 pub use Rattle.gixobj_store.specs.Stores
-pub use Rattle.gixobj_tree.specs.TreeDecoding
+pub use Rattle.gixobj_entries.specs.TreeDecoding
 pub use Rattle.gixobj_tree.specs.TreeEncoding
 pub use Rattle.gixobj_tree.specs.TreeSizes
 pub use Rattle.gixobj_tree.specs.TreeViews

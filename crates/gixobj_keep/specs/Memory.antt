@@ -15,7 +15,7 @@ use Rattle.gixobj_keep.specs.declared.memory.ids.MemoryIds.{MemoryIds}
 use Rattle.gixobj_keep.specs.declared.memory.Stored.{Stored}
 use Rattle.gixobj_keep.specs.declared.write.Error as written
 use Rattle.gixobj_keep.specs.declared.write.Error.TheVariants as write
-use Rattle.gixobj_tree.specs.Entries.{EntryView}
+use Rattle.gixobj_entries.specs.Entries.{EntryView}
 use Rattle.gixobj_tree.specs.TreeEncoding.{IsUnencodableTree}
 
 -- the stored object of a kept object

@@ -4,7 +4,7 @@ ghost use Rattle.gixobj_hash.specs.Hash.Borrowed.{borrowed_id};
 ghost use Rattle.gixobj_hash.specs.declared.decode.Error.TheVariants.{Malformed};
 ghost use Rattle.gixobj_hash.specs.declared.kind.Kind.TheVariants as object;
 ghost use Rattle.gixobj_keep.specs.ExistingTrees.{IsStoredContentError, IsEncodingOf, IsExistingTreeError, NamesSuch};
-ghost use Rattle.gixobj_tree.specs.TreeDecoding.{DecodesToTree};
+ghost use Rattle.gixobj_entries.specs.TreeDecoding.{DecodesToTree};
 ghost use Rattle.gixobj_tree.specs.TreeViews.{tree_entries};
 
 pub mod existing_object;

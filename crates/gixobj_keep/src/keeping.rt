@@ -64,7 +64,7 @@ pub trait Keep: Find {
     ghost use Rattle.std.specs.Prelude.{List};
     ghost use Rattle.gixobj_hash.specs.declared.hash.object_id.ObjectId.{ObjectId};
     ghost use Rattle.gixobj_keep.specs.declared.keeping.KeepError.{KeepError};
-    ghost use Rattle.gixobj_tree.specs.Entries.{EntryView};
+    ghost use Rattle.gixobj_entries.specs.Entries.{EntryView};
 
     /// In this state, keeping this tree under this id may return this error.
     ghost keep_errors: { Self → ObjectId → List EntryView → KeepError → Type 0 };

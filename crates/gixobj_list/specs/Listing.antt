@@ -4,13 +4,13 @@ use Rattle.std.specs.Prelude.{◌≡◌, ◌≢◌, ◌⊎◌, ℕ, List, [], �
 use Rattle.std.specs.List.{flat_map}
 use Rattle.gixobj_hash.specs.Bytes.{newline, space}
 use Rattle.gixobj_hash.specs.Decode.{HasContent, IsShort}
-use Rattle.gixobj_tree.specs.Entries.{EntryView}
+use Rattle.gixobj_entries.specs.Entries.{EntryView}
 use Rattle.gixobj_hash.specs.Hash.{encode_id_hex}
 use Rattle.gixobj_mode.specs.Mode.{entry_kind_name, kind_of_mode, encode_mode}
 use Rattle.gixobj_hash.specs.declared.hash.kind.Kind as hash
 use Rattle.gixobj_hash.specs.declared.kind.Kind.{Kind}
 use Rattle.gixobj_hash.specs.declared.kind.Kind.TheVariants.{Tree}
-use Rattle.gixobj_tree.specs.TreeDecoding.{BeginsWithEntry, IsMalformedTree, DecodesToTree}
+use Rattle.gixobj_entries.specs.TreeDecoding.{BeginsWithEntry, IsMalformedTree, DecodesToTree}
 use Rattle.gixobj_fields.specs.Streams.{AppendsAll, FailsToAppend, SinkView}
 use Rattle.gixobj_show.specs.Engine.{ReadsAll, IsPrinted, HasWrittenNothing}
 use Rattle.gixobj_show.specs.Failure.{BeginsWithNoLooseHeader, exit_status_of, line_of}

@@ -7,7 +7,8 @@ ghost use Rattle.gixobj_hash.specs.declared.kind.Kind.TheVariants.{Tree};
 ghost use Rattle.gixobj_list.specs.Listing.{IsListed, IsUnlisted, Listed, IsListError, IsListingError, IsListedTreeError, entry_line, listing_of};
 ghost use Rattle.gixobj_show.specs.Engine.{HasWrittenNothing};
 ghost use Rattle.gixobj_show.specs.Arguments.{IsCommandOfHash};
-ghost use Rattle.gixobj_tree.specs.TreeViews.{entry_view, tree_entries};
+ghost use Rattle.gixobj_entries.specs.EntryViews.{entry_view};
+ghost use Rattle.gixobj_tree.specs.TreeViews.{tree_entries};
 
 use gixobj_fields::streams::{FromRead, Sink, Source, ToWrite};
 use gixobj_hash::decode::{Error, loose_content};

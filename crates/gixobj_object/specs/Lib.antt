@@ -19,7 +19,7 @@ pub use Rattle.gixobj_tag.specs.TagOwned
 pub use Rattle.gixobj_tag.specs.TagFormat
 pub use Rattle.gixobj_tag.specs.TagViews
 pub use Rattle.gixobj_tag.specs.TagWriting
-pub use Rattle.gixobj_tree.specs.TreeDecoding
+pub use Rattle.gixobj_entries.specs.TreeDecoding
 pub use Rattle.gixobj_tree.specs.TreeEncoding
 pub use Rattle.gixobj_tree.specs.TreeSizes
 pub use Rattle.gixobj_tree.specs.TreeViews

@@ -4,7 +4,7 @@ use Rattle.std.proofs.Common.{◌≡◌, ◌≢◌, ◌∙◌, ℕ, true, false,
 use Rattle.std.specs.List.{AllByRecursion}
 use Rattle.gixobj_open.specs.declared.open.Child.{Child}
 use Rattle.std.specs.Cmp.Lexicographic.{bytes_decides}
-use Rattle.gixobj_tree.specs.Entries.{EntryView}
+use Rattle.gixobj_entries.specs.Entries.{EntryView}
 use Rattle.gixobj_tree.specs.WellFormed.{EachLater}
 use Rattle.gixobj_files.specs.Bases.{base_edited, base_opened}
 use Rattle.gixobj_mode.specs.Mode.{is_tree_mode}

@@ -7,7 +7,7 @@ use Rattle.std.proofs.lemmas.List.{append-nil, append_assoc, map-append, reverse
 use mathlib.Core.List.{reverse-cons}
 use Rattle.bstr.specs.Owned.{bstring_bytes}
 use Rattle.bstr.specs.declared.bstring.BString.{BString}
-use Rattle.gixobj_tree.specs.Entries.{EntryView}
+use Rattle.gixobj_entries.specs.Entries.{EntryView}
 use Rattle.gixobj_files.specs.Editing.{same_name}
 use Rattle.gixobj_files.specs.Edits.{ensured_dirs, or_empty, removed_dirs, upserted_dirs, with_dir, with_directory, with_path}
 use Rattle.gixobj_files.specs.Files.{Path}

@@ -5,7 +5,7 @@ use Rattle.std.specs.Prelude.{◌&&◌}
 use Rattle.std.specs.List.{AllByRecursion}
 use Rattle.std.proofs.lemmas.List.{map-append}
 use Rattle.bstr.specs.Owned.{bstring_bytes}
-use Rattle.gixobj_tree.specs.Entries.{EntryView}
+use Rattle.gixobj_entries.specs.Entries.{EntryView}
 use Rattle.gixobj_tree.specs.WellFormed.{EachLater}
 use Rattle.gixobj_files.specs.Files.{Path}
 use Rattle.gixobj_files.proofs.OpenedFiles.{same_name_refl, same_name_false}

@@ -9,8 +9,8 @@ use Rattle.std.specs.List.{AllByRecursion, filter, position, position_or_len}
 use Rattle.std.specs.Ordering.{eq_by_cmp, is_gt, is_lt, nat_cmp}
 use Rattle.std.proofs.lemmas.Bool.{ltb-false, ltb-true}
 use Rattle.bstr.specs.Owned.{bstring_bytes}
-use Rattle.gixobj_tree.specs.Entries.{EntryView}
-use Rattle.gixobj_tree.specs.KeyOrder.{key_of}
+use Rattle.gixobj_entries.specs.Entries.{EntryView}
+use Rattle.gixobj_entries.specs.KeyOrder.{key_of}
 use Rattle.gixobj_tree.specs.WellFormed.{EachLater, IsEntryName}
 use Rattle.gixobj_hash.specs.declared.hash.object_id.ObjectId.{ObjectId}
 use Rattle.gixobj_files.specs.Editing.{has_tree, same_name, with_entry, without}
@@ -23,7 +23,7 @@ use Rattle.gixobj_files.proofs.WellFormedEdits.{is_well_formed_with_entry, is_we
 use Rattle.gixobj_files.proofs.HasTrees.{is_well_formed_with_directory, has_tree_with_other_directory, has_tree_without_other, has_tree_with_entry, has_tree_with_directory}
 use Rattle.gixobj_sorted.proofs.Sublists.{all_pass, all_weaker, later_kept}
 use Rattle.gixobj_sorted.specs.Pieces.{is_after, is_before}
-use Rattle.gixobj_tree.proofs.WellFormed.{eq_of_slice_cmp_equal}
+use Rattle.gixobj_entries.proofs.TiedBytes.{eq_of_slice_cmp_equal}
 use Rattle.gixobj_files.proofs.OpenedFiles.{same_name_refl, same_name_false, name_eq_or_ne}
 use Rattle.gixobj_open.proofs.Ordered.{all_with_part, are_ordered_with_part, name_of_key_unique}
 

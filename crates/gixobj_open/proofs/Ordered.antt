@@ -8,9 +8,9 @@ use Rattle.std.proofs.lemmas.Bool.{false_from_ne_true}
 use Rattle.std.proofs.lemmas.List.{append_cancel_right, map-append}
 use Rattle.bstr.specs.Owned.{bstring_bytes}
 use Rattle.gixobj_files.specs.Editing.{same_name}
-use Rattle.gixobj_tree.proofs.WellFormed.{slice_cmp_equal_of_eq}
-use Rattle.gixobj_tree.specs.Entries.{EntryView}
-use Rattle.gixobj_tree.specs.KeyOrder.{key_of}
+use Rattle.gixobj_entries.proofs.TiedBytes.{slice_cmp_equal_of_eq}
+use Rattle.gixobj_entries.specs.Entries.{EntryView}
+use Rattle.gixobj_entries.specs.KeyOrder.{key_of}
 use Rattle.gixobj_tree.specs.WellFormed.{EachLater}
 use Rattle.gixobj_open.specs.declared.open.Child.{Child}
 use Rattle.gixobj_open.specs.Nested.{AreOrdered, IsLevel, Part, called, child_key, other_parts, part, part_key, parts, with_part}

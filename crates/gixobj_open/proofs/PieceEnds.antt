@@ -11,7 +11,7 @@ use Rattle.bstr.specs.Owned.{bstring_bytes}
 use Rattle.gixobj_files.specs.Editing.{has_tree}
 use Rattle.gixobj_sorted.specs.Pieces.{AreNonEmpty}
 use Rattle.gixobj_sorted.proofs.Keys.{all_of_append_left, each_later_of_append_left}
-use Rattle.gixobj_tree.specs.Entries.{EntryView}
+use Rattle.gixobj_entries.specs.Entries.{EntryView}
 use Rattle.gixobj_open.specs.Children.{IsAt, index_of_child, with_child}
 use Rattle.gixobj_open.specs.Decreases.{length-below_append}
 use Rattle.gixobj_open.specs.Nested.{AreFilled, IsLevel, IsPiecedLevel, Opened, Part, below, child_list, length-under, part, part_key, parts, under}

@@ -7,10 +7,10 @@ use Rattle.std.specs.declared.alloc.Global.{Global}
 use Rattle.std.specs.declared.vec.Vec.{Vec}
 use Rattle.std.proofs.lemmas.List.{append-nil, append_assoc, map-append, get_or_append_left, get_or-append-add, get_or_default}
 use Rattle.bstr.specs.Owned.{bstring_bytes}
-use Rattle.gixobj_tree.specs.Entries.{EntryView}
+use Rattle.gixobj_entries.specs.Entries.{EntryView}
 use Rattle.gixobj_sorted.proofs.FlatIndices.{get_or_flat_map, joined_set_first, joined_set_more}
 use Rattle.gixobj_sorted.proofs.Joined.{are_non_empty_set, non_empty_at}
-use Rattle.gixobj_tree.specs.KeyOrder.{key_of}
+use Rattle.gixobj_entries.specs.KeyOrder.{key_of}
 use Rattle.gixobj_files.specs.Editing.{same_name}
 use Rattle.gixobj_sorted.specs.Pieces.{AreNonEmpty, IsPieced, flat_index, has_key, joined}
 use Rattle.gixobj_open.specs.Children.{IsAt, index_of_child, with_child}

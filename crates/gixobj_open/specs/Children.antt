@@ -5,7 +5,7 @@ use Rattle.std.specs.Vec.{with_item}
 use Rattle.std.specs.declared.alloc.Global.{Global}
 use Rattle.std.specs.declared.vec.Vec.{Vec}
 use Rattle.bstr.specs.Owned.{bstring_bytes}
-use Rattle.gixobj_tree.specs.KeyOrder.{key_of}
+use Rattle.gixobj_entries.specs.KeyOrder.{key_of}
 use Rattle.gixobj_files.specs.Editing.{same_name}
 use Rattle.gixobj_sorted.specs.Pieces.{HoldsAtPiece, IsPosition, flat_index, joined, pieces_at_most}
 use Rattle.gixobj_open.specs.Nested.{child_key}

@@ -3,7 +3,7 @@ use Rattle.std.specs.Prelude.{◌≡◌, ◌||◌, Bool, true, false, not, List,
 use Rattle.std.specs.List.{filter}
 use Rattle.bstr.specs.declared.bstring.BString.{BString}
 use Rattle.gixobj_open.specs.Paths.{names_of}
-use Rattle.gixobj_tree.specs.Entries.{EntryView}
+use Rattle.gixobj_entries.specs.Entries.{EntryView}
 use Rattle.gixobj_files.specs.Editing.{has_tree, same_name}
 use Rattle.gixobj_files.specs.Files.{Path}
 use Rattle.gixobj_files.specs.Opening.{Dirs, in_dir}

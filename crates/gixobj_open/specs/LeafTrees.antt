@@ -1,8 +1,8 @@
 -- Leaf trees: trees of directories that are emitted without a copy, and moved after the last call.
 use Rattle.std.specs.Prelude.{◌&&◌, ◌==◌, Bool, true, false, not, List, [], ◌∷◌, ◌++◌, length, if◌then◌else◌}
 use Rattle.std.specs.List.{list_all}
-use Rattle.gixobj_tree.specs.Entries.{EntryView}
-use Rattle.gixobj_tree.specs.EntryOrder.{same_tree}
+use Rattle.gixobj_entries.specs.Entries.{EntryView}
+use Rattle.gixobj_entries.specs.EntryOrder.{same_tree}
 use Rattle.gixobj_files.specs.Editing.{same_name}
 use Rattle.gixobj_files.specs.Files.{Path, is_null}
 use Rattle.gixobj_open.specs.Nested.{Level, Opened}

@@ -1,6 +1,6 @@
 -- Trees that may be emitted.
 use Rattle.std.specs.Prelude.{List, All, IsFalse}
-use Rattle.gixobj_tree.specs.Entries.{EntryView}
+use Rattle.gixobj_entries.specs.Entries.{EntryView}
 use Rattle.gixobj_tree.specs.WellFormed.{IsWellFormed}
 use Rattle.gixobj_files.specs.Files.{is_null}
 

@@ -1,7 +1,7 @@
 //! Leaf trees: trees of directories that a write emits without a copy. The entries of those are one piece.
 ghost use Rattle.std.specs.Prelude.{◌≡◌, ◌≢◌, [], IfNone, IfOk, IfSome, IsFalse, IsTrue, List, Some, length, not, true};
 ghost use Rattle.std.specs.List.{flat_map, list_all};
-ghost use Rattle.gixobj_tree.specs.Entries.{EntryView};
+ghost use Rattle.gixobj_entries.specs.Entries.{EntryView};
 ghost use Rattle.gixobj_files.specs.Files.{is_null};
 ghost use Rattle.gixobj_sorted.specs.Pieces.{AreNonEmpty};
 ghost use Rattle.gixobj_open.specs.Storable.{IsStorable};

@@ -5,7 +5,7 @@ ghost use Rattle.std.specs.Option.{option_copied};
 ghost use Rattle.bstr.specs.Owned.{bstring_bytes};
 ghost use Rattle.gixobj_hash.specs.Bytes.{slash};
 ghost use Rattle.gixobj_hash.specs.ByteStrings.{IsByteFree};
-ghost use Rattle.gixobj_tree.specs.Entries.{EntryView};
+ghost use Rattle.gixobj_entries.specs.Entries.{EntryView};
 ghost use Rattle.gixobj_tree.specs.WellFormed.{IsEntryName, IsWellFormed};
 ghost use Rattle.gixobj_mode.specs.Mode.{mode_bits};
 ghost use Rattle.gixobj_files.specs.Editing.{has_tree, same_name, with_entry, without};
@@ -74,7 +74,7 @@ pub struct Child {
 
 impl Model for Open {
     ghost use Rattle.std.specs.Prelude.{List, ℕ, ◌∷◌, [], length};
-    ghost use Rattle.gixobj_tree.specs.Entries.{EntryView};
+    ghost use Rattle.gixobj_entries.specs.Entries.{EntryView};
 
     ghost Value = { List (List (List ℕ) × (List EntryView × List EntryView)) };
 

@@ -19,8 +19,8 @@ use Rattle.gixobj_hash.specs.declared.kind.Kind.TheVariants as kind
 use Rattle.gixobj_line.specs.Commit.{IsCommitDecodeError}
 use Rattle.gixobj_tag.proofs.Recognized.{some_tag}
 use Rattle.gixobj_tag.specs.TagFormat.{IsMalformedTag}
-use Rattle.gixobj_tree.specs.Entries.{EntryView}
-use Rattle.gixobj_tree.specs.TreeDecoding.{DecodesToTree, IsTreeDecodeError}
+use Rattle.gixobj_entries.specs.Entries.{EntryView}
+use Rattle.gixobj_entries.specs.TreeDecoding.{DecodesToTree, IsTreeDecodeError}
 use Rattle.gixobj_tree.specs.TreeEncoding.{IsTreeEncodeError, encode_tree}
 
 pub reencode_call_of_written : (hash : hash.Kind) (kind : Kind) (bytes encoded items before after : List ℕ) (len_before len status : ℕ)

@@ -17,8 +17,8 @@ use Rattle.gixobj_line.specs.Commit.{CommitLines, DecodesToCommit, IsCommit, IsC
 use Rattle.gixobj_line.specs.TagPrefix.{IsTag}
 use Rattle.gixobj_tag.specs.TagFormat.{DecodesToTag, TagLines}
 use Rattle.gixobj_tag.specs.TagWriting.{IsTagLinesError, encode_tag}
-use Rattle.gixobj_tree.specs.Entries.{EntryView}
-use Rattle.gixobj_tree.specs.TreeDecoding.{BeginsWithEntry, DecodesToTree}
+use Rattle.gixobj_entries.specs.Entries.{EntryView}
+use Rattle.gixobj_entries.specs.TreeDecoding.{BeginsWithEntry, DecodesToTree}
 use Rattle.gixobj_tree.specs.TreeEncoding.{IsTreeEncodeError, encode_tree}
 
 -- the bytes are the encoding of some object of this kind; of a blob all bytes are

@@ -24,7 +24,7 @@ use Rattle.gixobj_editor.specs.RunTables.{DecodesToItself}
 use Rattle.gixobj_editor.specs.declared.reply.Reply.{Reply}
 use Rattle.gixobj_keep.specs.declared.memory.Memory.{Memory}
 use Rattle.gixobj_tree.specs.Rewriting.{RoundTrips}
-use Rattle.gixobj_tree.specs.Entries.{EntryView, Pair}
+use Rattle.gixobj_entries.specs.Entries.{EntryView, Pair}
 use Rattle.gixobj_tree.specs.TreeEncoding.{encode_tree, IsDigestResult}
 use Rattle.gixobj_script.specs.Digests.{HaveDistinctIds}
 use Rattle.gixobj_script.specs.Edits.{memory_model}

@@ -4,7 +4,7 @@ use Rattle.gixobj_files.specs.Files.{is_null}
 use Rattle.gixobj_hash.specs.Hash.{id_of}
 use Rattle.gixobj_hash.specs.declared.hash.kind.Kind as hash
 use Rattle.gixobj_hash.specs.declared.kind.Kind.TheVariants.{Tree}
-use Rattle.gixobj_tree.specs.Entries.{Pair}
+use Rattle.gixobj_entries.specs.Entries.{Pair}
 
 -- different trees have different ids, the empty tree among them, and no id is null
 pub record HaveDistinctIds (hash : hash.Kind) (pairs : List Pair) : Type 0 where

@@ -16,8 +16,8 @@ use Rattle.std.proofs.lemmas.List.Quantifiers.{position-Some}
 use Rattle.std.proofs.lemmas.List.Sorted.{searchable_from_sorted}
 use Rattle.std.proofs.lemmas.List.Sums.{prefix_len_is}
 use Rattle.std.proofs.lemmas.Option.{slice_get-get_or, slice_get_past}
-use Rattle.gixobj_tree.proofs.WellFormed.{eq_of_slice_cmp_equal, slice_cmp_equal_of_eq}
-use Rattle.gixobj_tree.specs.WellFormed.{EachLater}
+use Rattle.gixobj_entries.proofs.TiedBytes.{eq_of_slice_cmp_equal, slice_cmp_equal_of_eq}
+use Rattle.gixobj_entries.specs.KeyOrder.{EachLater}
 use Rattle.gixobj_sorted.specs.Pieces.{IsAscending, is_before, key_cmp}
 
 -- the first position at which a test passes, and a list in which it never does

@@ -7,7 +7,7 @@ use Rattle.std.specs.Cmp.Lexicographic.{slice_cmp}
 use Rattle.std.specs.List.{find, flat_map, position}
 use Rattle.std.specs.Ordering.{is_eq, nat_cmp}
 use Rattle.std.proofs.lemmas.List.{get_or_append_left, get_or-append-add, set-append_left, set-append_right}
-use Rattle.gixobj_tree.proofs.WellFormed.{eq_of_slice_cmp_equal, slice_cmp_equal_of_eq}
+use Rattle.gixobj_entries.proofs.TiedBytes.{eq_of_slice_cmp_equal, slice_cmp_equal_of_eq}
 use Rattle.gixobj_sorted.specs.Pieces.{IsAscending, flat_index, has_key, joined}
 use Rattle.gixobj_sorted.proofs.BinarySearch.{element_at, later_at, position_at, position_none}
 

@@ -10,7 +10,7 @@ use Rattle.std.specs.Result.{OnErr}
 use Rattle.std.proofs.lemmas.Cmp.{nat_list_cmp_total}
 use Rattle.std.proofs.lemmas.List.{get_or-set_same}
 use Rattle.std.proofs.lemmas.List.Elements.{filter-append}
-use Rattle.gixobj_tree.specs.WellFormed.{EachLater}
+use Rattle.gixobj_entries.specs.KeyOrder.{EachLater}
 use Rattle.gixobj_sorted.specs.Pieces.{AreNonEmpty, HoldsAtPiece, IsAscending, IsPieced, begins_at_most, has_key, is_after, is_before, item_key, joined, pieces_at_most, with_item, without_key}
 use Rattle.gixobj_sorted.proofs.BinarySearch.{greater_of_compare, less_of_compare}
 use Rattle.gixobj_sorted.proofs.Keys.{each_later_of_append_left, each_later_of_append_right, is_ascending_of_append_right}

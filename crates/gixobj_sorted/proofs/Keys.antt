@@ -6,8 +6,8 @@ use Rattle.std.specs.Cmp.Lexicographic.{slice_cmp}
 use Rattle.std.specs.List.{AllByRecursion, flat_map}
 use Rattle.std.specs.Ordering.{is_gt, is_lt, nat_cmp, ordering_reverse}
 use Rattle.std.proofs.lemmas.Cmp.{nat_list_cmp_total}
-use Rattle.gixobj_tree.proofs.WellFormed.{eq_of_slice_cmp_equal}
-use Rattle.gixobj_tree.specs.WellFormed.{EachLater}
+use Rattle.gixobj_entries.proofs.TiedBytes.{eq_of_slice_cmp_equal}
+use Rattle.gixobj_entries.specs.KeyOrder.{EachLater}
 use Rattle.gixobj_sorted.specs.Pieces.{AreNonEmpty, IsAscending, begins_at_most, is_after, is_before}
 use Rattle.gixobj_sorted.proofs.BinarySearch.{less_of_compare}
 use Rattle.gixobj_sorted.proofs.PrefixLengths.{IsPrefixClosed}

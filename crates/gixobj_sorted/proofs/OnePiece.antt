@@ -7,7 +7,7 @@ use Rattle.std.specs.Cmp.Lexicographic.{slice_cmp}
 use Rattle.std.specs.List.{AllByRecursion, filter, find, insert, prefix_len, remove}
 use Rattle.std.specs.Ordering.{is_eq, is_gt, is_lt, nat_cmp}
 use Rattle.std.proofs.lemmas.List.Elements.{filter-append}
-use Rattle.gixobj_tree.specs.KeyOrder.{key_of}
+use Rattle.gixobj_entries.specs.KeyOrder.{key_of}
 use Rattle.gixobj_sorted.specs.Pieces.{IsAscending, has_key, is_after, is_before, item_key, with_item, without_key}
 use Rattle.gixobj_sorted.proofs.Keys.{all_of_append_right, greater_of_less_of_not_before, less_of_less_of_not_after}
 

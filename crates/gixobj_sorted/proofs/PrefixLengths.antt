@@ -6,7 +6,7 @@ use Rattle.std.specs.List.{prefix_len}
 use Rattle.std.proofs.lemmas.Bool.Decides.{leb_tells}
 use Rattle.std.proofs.lemmas.List.Elements.{All-from_recursion}
 use Rattle.std.proofs.lemmas.List.Sums.{prefix_len_passes}
-use Rattle.gixobj_tree.specs.WellFormed.{EachLater}
+use Rattle.gixobj_entries.specs.KeyOrder.{EachLater}
 
 module _ {X : Type 0} (q : X → Bool) where
   -- an element passes if a later one does

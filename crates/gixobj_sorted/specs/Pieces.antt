@@ -5,8 +5,8 @@ use Rattle.std.specs.List.{AllByRecursion, HoldsAt, filter, flat_map, prefix_len
 use Rattle.std.specs.Ordering.{is_eq, is_gt, is_lt, nat_cmp}
 use Rattle.std.specs.declared.cmp.Ordering.{Ordering}
 use Rattle.std.specs.declared.cmp.Ordering.TheVariants.{Greater, Less}
-use Rattle.gixobj_tree.specs.KeyOrder.{key_of}
-use Rattle.gixobj_tree.specs.WellFormed.{EachLater}
+use Rattle.gixobj_entries.specs.KeyOrder.{key_of}
+use Rattle.gixobj_entries.specs.KeyOrder.{EachLater}
 
 -- the key of an item with this name and kind
 abbrev pub item_key : {X : Type 0} → (X → List ℕ) → (X → Bool) → X → List ℕ

@@ -1,7 +1,7 @@
 //! Tests of two neighbours, which show without a search that a list has no item of a key.
 ghost use Rattle.std.specs.Prelude.{◌≡◌, IsTrue, List, None};
 ghost use Rattle.std.specs.List.{find};
-ghost use Rattle.gixobj_tree.specs.KeyOrder.{key_of};
+ghost use Rattle.gixobj_entries.specs.KeyOrder.{key_of};
 ghost use Rattle.gixobj_sorted.specs.Pieces.{HasGap, IsGreaterFrom, IsLessBefore, IsPieced, has_key, item_key, joined, other_key};
 
 use crate::named::Named;

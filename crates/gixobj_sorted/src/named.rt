@@ -1,7 +1,7 @@
 //! Items of sorted lists.
 ghost use Rattle.std.specs.Prelude.{◌≡◌, ℕ, Bool, IsFalse, List, true};
 
-use gixobj_tree::tree::Entry;
+use gixobj_entries::Entry;
 
 /// An item with a name, of a directory or of a file.
 ///

@@ -4,7 +4,7 @@
 ghost use Rattle.std.specs.Prelude.{◌≡◌, ◌≢◌, ◌⊎◌, ◌+◌, ◌<◌, ◌≤◌, [], IsFalse, IsTrue, None, if◌then◌else◌, length, vec_capacity, vec_len};
 ghost use Rattle.std.specs.List.{find};
 ghost use Rattle.std.specs.Option.{option_copied};
-ghost use Rattle.gixobj_tree.specs.KeyOrder.{key_of};
+ghost use Rattle.gixobj_entries.specs.KeyOrder.{key_of};
 ghost use Rattle.gixobj_sorted.specs.Pieces.{HasGap, HoldsAtPiece, IsAscending, IsPieced, has_key, item_key, joined, other_key, pieces_at_most, with_item, without_key};
 
 use crate::gaps::{is_alone_in, is_past_end};

@@ -1,7 +1,7 @@
 //! Positions in lists in pieces, for owners that change an item in place.
 ghost use Rattle.std.specs.Prelude.{◌≡◌, ◌<◌, IfNone, IfSome, None, Some, length};
 ghost use Rattle.std.specs.List.{HoldsAt, find, position};
-ghost use Rattle.gixobj_tree.specs.KeyOrder.{key_of};
+ghost use Rattle.gixobj_entries.specs.KeyOrder.{key_of};
 ghost use Rattle.gixobj_sorted.specs.Pieces.{IsAscending, IsPieced, IsPosition, flat_index, has_key, item_key, joined};
 
 use crate::gaps::is_past_end;

@@ -1,11 +1,11 @@
 //! Binary searches in sorted lists.
 ghost use Rattle.std.specs.Prelude.{◌≡◌, ◌<◌, ◌≤◌, true, false, IfErr, IfOk, MatchResult, length};
 ghost use Rattle.std.specs.List.{HoldsAt, flat_map, prefix_len};
-ghost use Rattle.gixobj_tree.specs.KeyOrder.{key_of};
+ghost use Rattle.gixobj_entries.specs.KeyOrder.{key_of};
 ghost use Rattle.gixobj_sorted.specs.Pieces.{AreNonEmpty, IsAscending, begins_at_most, has_key, is_before, item_key, key_cmp, pieces_at_most};
 
 use crate::named::Named;
-use gixobj_tree::tree::order::key_order;
+use gixobj_entries::order::key_order;
 use std::cmp::Ordering;
 
 /// Compares the key of an item with that of a name and kind.

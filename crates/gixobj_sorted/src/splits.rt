@@ -1,7 +1,7 @@
 //! Capacity for one more item in a list in pieces; full pieces are split.
 ghost use Rattle.std.specs.Prelude.{◌≡◌, ◌≢◌, ◌<◌, ◌≤◌, ◌++◌, [], IfOk, IsTrue, OnErr, OnOk, length, map, slice_index_or, vec_capacity, vec_len};
 ghost use Rattle.std.specs.List.{flat_map};
-ghost use Rattle.gixobj_tree.specs.KeyOrder.{key_of};
+ghost use Rattle.gixobj_entries.specs.KeyOrder.{key_of};
 ghost use Rattle.gixobj_sorted.specs.Pieces.{AreNonEmpty, HoldsAtPiece, IsPieced, item_key, joined, pieces_at_most};
 
 use crate::named::Named;

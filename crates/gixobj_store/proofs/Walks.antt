@@ -8,10 +8,10 @@ use Rattle.gixobj_fields.specs.Runs.{broken, complete, yields_end, yields_error}
 use Rattle.gixobj_hash.specs.declared.decode.Error.{Error}
 use Rattle.gixobj_hash.specs.declared.decode.Error.TheVariants.{Malformed, OutOfMemory}
 use Rattle.gixobj_hash.specs.declared.hash.kind.Kind.{Kind}
-use Rattle.gixobj_tree.specs.Entries.{EntryView}
-use Rattle.gixobj_tree.specs.TreeDecoding.{EntryStep, YieldsEntries}
-use Rattle.gixobj_tree.specs.TreeViews.{entry_view}
-use Rattle.gixobj_tree.specs.declared.tree.borrowed.entry_ref.EntryRef.{EntryRef}
+use Rattle.gixobj_entries.specs.Entries.{EntryView}
+use Rattle.gixobj_entries.specs.TreeDecoding.{EntryStep, YieldsEntries}
+use Rattle.gixobj_entries.specs.EntryViews.{entry_view}
+use Rattle.gixobj_entries.specs.declared.entry_ref.EntryRef.{EntryRef}
 use Rattle.gixobj_store.specs.EntrySteps.{NextEntry, HasConsumedEntries, IsAtEntry, IsTail, remaining_tree_bytes, tree_reader_state}
 use Rattle.gixobj_store.specs.declared.tree.TreeRefIter.{TreeRefIter}
 

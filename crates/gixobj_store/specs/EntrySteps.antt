@@ -5,10 +5,10 @@ use Rattle.gixobj_fields.specs.Iterators.{NextPiece, ReaderState}
 use Rattle.gixobj_fields.specs.Runs as runs
 use Rattle.gixobj_hash.specs.declared.decode.Error.{Error}
 use Rattle.gixobj_hash.specs.declared.hash.kind.Kind.{Kind}
-use Rattle.gixobj_tree.specs.Entries.{EntryView}
-use Rattle.gixobj_tree.specs.TreeDecoding.{EntryStep}
-use Rattle.gixobj_tree.specs.TreeViews.{entry_view}
-use Rattle.gixobj_tree.specs.declared.tree.borrowed.entry_ref.EntryRef.{EntryRef}
+use Rattle.gixobj_entries.specs.Entries.{EntryView}
+use Rattle.gixobj_entries.specs.TreeDecoding.{EntryStep}
+use Rattle.gixobj_entries.specs.EntryViews.{entry_view}
+use Rattle.gixobj_entries.specs.declared.entry_ref.EntryRef.{EntryRef}
 use Rattle.gixobj_store.specs.declared.tree.TreeRefIter.{TreeRefIter}
 
 -- the remaining bytes of an iterator

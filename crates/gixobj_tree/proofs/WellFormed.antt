@@ -2,17 +2,18 @@
 -- `is_well_formed`, of directories and of files.
 use Rattle.std.proofs.Common.{◌≡◌, ◌≢◌, ℕ, zero, suc, ◌+◌, ◌<◌, ◌⊎◌, inl, inr, arith, Bool, true, false, not, List, [], ◌∷◌, ◌++◌, length, get_or, All, Contains, MatchBool, HoldsAt, refl, sym, ap, subst, ◌∙◌, Less, Equal, Greater, Ordering, Result, Ok, Err}
 use mathlib.Core.Bool.{true≢false}
-use Rattle.std.specs.Cmp.Lexicographic.{bytes_decides, slice_cmp, texts_ties}
+use Rattle.std.specs.Cmp.Lexicographic.{slice_cmp}
 use Rattle.std.specs.List.{AllAdjacentBelow, AllWithin, IsAllAdjacentAnswer}
 use Rattle.std.specs.List.Sorted.{IsBinarySearchResult, IsPartitionPoint, IsSearchInRange, IsSortedBy}
 use Rattle.std.specs.Ordering.{is_eq, is_lt, nat_cmp, ordering_reverse}
 use Rattle.std.specs.Result.{is_ok}
 use Rattle.std.proofs.lemmas.Bool.Decides.{leb_tells}
-use Rattle.std.proofs.lemmas.Cmp.{nat_list_cmp_total, tied_itself}
+use Rattle.std.proofs.lemmas.Cmp.{nat_list_cmp_total}
 use Rattle.std.proofs.lemmas.List.Elements.{All-contains, All-from_recursion, All-weaker, at_from_Contains, Contains-get_or, Contains-push, recursion_from_All}
 use Rattle.std.proofs.lemmas.List.Sorted.{searchable_from_sorted}
-use Rattle.gixobj_tree.specs.Entries.{EntryView}
-use Rattle.gixobj_tree.specs.KeyOrder.{ComesBefore, entry_key, key_of}
+use Rattle.gixobj_entries.proofs.TiedBytes.{eq_of_slice_cmp_equal, slice_cmp_equal_of_eq}
+use Rattle.gixobj_entries.specs.Entries.{EntryView}
+use Rattle.gixobj_entries.specs.KeyOrder.{ComesBefore, entry_key, key_of}
 use Rattle.gixobj_tree.specs.WellFormed.{AreApart, EachLater, HasKey, HasNamesake, HaveEntryNames, IsEntryName}
 use Rattle.gixobj_mode.specs.Mode.{is_tree_mode}
 use Rattle.gixobj_hash.specs.ByteStrings.{IsByteFree}
@@ -68,13 +69,6 @@ pub each_later_of_test : (entries : List EntryView) (b : Bool)
 each_later_of_test entries true h = later_from_next ComesBefore comes_before_trans entries (λ k d l. less_of_is_lt _ (h k d l))
 each_later_of_test [] false h = absurd (omega (arith, h.1))
 each_later_of_test (e ∷ es) false h = λ up. not_less_of_not_is_lt _ (h.2 e) (later_at ComesBefore (e ∷ es) up h.0 (h.0 + 1) e (omega arith) h.1)
-
--- the binary search: keys that tie are equal
-pub eq_of_slice_cmp_equal : (xs ys : List ℕ) → slice_cmp nat_cmp xs ys ≡ Equal → xs ≡ ys
-eq_of_slice_cmp_equal xs ys e = (bytes_decides xs ys).0 (texts_ties xs ys ∙ ap is_eq e)
-
-pub slice_cmp_equal_of_eq : (xs ys : List ℕ) → xs ≡ ys → slice_cmp nat_cmp xs ys ≡ Equal
-slice_cmp_equal_of_eq xs ys e = rw e (tied_itself nat_list_cmp_total ys)
 
 key_not_lt_of_comes_before : (x y : EntryView) → ComesBefore x y → is_lt (slice_cmp nat_cmp (entry_key y) (entry_key x)) ≡ false
 key_not_lt_of_comes_before x y h = ap is_lt (nat_list_cmp_total.antisymm (entry_key y) (entry_key x) ∙ ap ordering_reverse h)

@@ -1,13 +1,12 @@
-pub mod Entries
-pub mod EntryOrder
-pub mod EntryOrderLaws
-pub mod KeyOrder
 pub mod Rewriting
-pub mod TreeDecoding
 pub mod TreeEncoding
 pub mod TreeSizes
 pub mod TreeViews
 pub mod WellFormed
+pub use Rattle.gixobj_entries.specs.Entries
+pub use Rattle.gixobj_entries.specs.EntryOrder
+pub use Rattle.gixobj_entries.specs.KeyOrder
+pub use Rattle.gixobj_entries.specs.TreeDecoding
 pub use Rattle.gixobj_fields.specs.Runs
 pub use Rattle.gixobj_fields.specs.Streams
 pub use Rattle.gixobj_fields.specs.Writing

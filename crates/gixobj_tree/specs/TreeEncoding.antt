@@ -1,7 +1,7 @@
 -- Encoding of trees (gitdatamodel, "trees"; git-mktree reads the same entries as lines).
 use Rattle.std.specs.Prelude.{◌≡◌, ℕ, List, [], ◌∷◌, ◌++◌, All, Contains, Err, Ok, Result}
 use Rattle.std.specs.List.{flat_map}
-use Rattle.gixobj_tree.specs.Entries.{EntryView}
+use Rattle.gixobj_entries.specs.Entries.{EntryView}
 use Rattle.gixobj_hash.specs.Hash.{id_bytes, id_of}
 use Rattle.gixobj_hash.specs.declared.hash.kind.Kind as hash
 use Rattle.gixobj_hash.specs.declared.hash.object_id.ObjectId.{ObjectId}

@@ -1,15 +1,8 @@
--- Views of borrowed trees and of their entries.
+-- The view of a borrowed tree, and that of its entries.
 use Rattle.std.specs.Prelude.{List, map}
-use Rattle.bstr.specs.BStr.{bstr_bytes}
-use Rattle.gixobj_hash.specs.Hash.Borrowed.{borrowed_id}
-use Rattle.gixobj_tree.specs.Entries.{EntryView, entry_of}
-use Rattle.gixobj_mode.specs.Mode.{mode_bits}
-use Rattle.gixobj_tree.specs.declared.tree.borrowed.entry_ref.EntryRef.{EntryRef}
+use Rattle.gixobj_entries.specs.Entries.{EntryView}
+pub use Rattle.gixobj_entries.specs.EntryViews.{entry_view}
 use Rattle.gixobj_tree.specs.declared.tree.borrowed.TreeRef.{TreeRef}
-
--- the view of a borrowed entry: its mode, name and id
-abbrev pub entry_view : EntryRef → EntryView
-entry_view entry = entry_of (mode_bits entry.mode) (bstr_bytes entry.filename) (borrowed_id entry.oid)
 
 -- the view of a borrowed tree: its entries
 abbrev pub tree_entries : TreeRef → List EntryView

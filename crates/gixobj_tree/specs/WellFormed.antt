@@ -1,10 +1,11 @@
 -- Well-formed trees, and the parts of the check for them. git-fsck reports other trees as `emptyName`, `fullPathname`,
 -- `duplicateEntries` and `treeNotSorted`; what it reports as `hasDot`, `hasDotdot`, `hasDotgit` or `nullSha1` is
 -- well-formed here.
-use Rattle.std.specs.Prelude.{◌≡◌, ◌≢◌, ℕ, List, [], ◌∷◌, All, Contains, IsTrue}
+use Rattle.std.specs.Prelude.{◌≡◌, ◌≢◌, ℕ, List, [], All, Contains, IsTrue}
 use Rattle.std.specs.List.{AllByRecursion}
-use Rattle.gixobj_tree.specs.Entries.{EntryView}
-use Rattle.gixobj_tree.specs.KeyOrder.{ComesBefore, entry_key}
+use Rattle.gixobj_entries.specs.Entries.{EntryView}
+use Rattle.gixobj_entries.specs.KeyOrder.{ComesBefore, entry_key}
+pub use Rattle.gixobj_entries.specs.KeyOrder.{EachLater}
 use Rattle.gixobj_mode.specs.Mode.{is_tree_mode}
 use Rattle.gixobj_hash.specs.ByteStrings.{IsByteFree}
 use Rattle.gixobj_hash.specs.Bytes.{slash}
@@ -13,11 +14,6 @@ use Rattle.gixobj_hash.specs.Bytes.{slash}
 pub record IsEntryName (name : List ℕ) : Type 0 where
   pub filled : name ≢ []
   pub one_name : IsByteFree slash name
-
--- `R` holds of each element and each later one
-abbrev pub EachLater : {X : Type 0} → (X → X → Type 0) → List X → Type 0
-EachLater R [] = Unit {0}
-EachLater R (x ∷ xs) = AllByRecursion (R x) xs × EachLater R xs
 
 -- a well-formed tree: each name is valid, no two names are equal, and the keys ascend
 pub record IsWellFormed (entries : List EntryView) : Type 0 where

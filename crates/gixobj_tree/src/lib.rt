@@ -1,5 +1,4 @@
-//! Trees, their entries and blobs, owned and borrowed: decoded, encoded, compared, ordered and copied
-//! (gitdatamodel, "trees").
+//! Trees and blobs, owned and borrowed: decoded, encoded, compared and copied (gitdatamodel, "trees").
 #![tactic(auto)]
 
 mod blob;

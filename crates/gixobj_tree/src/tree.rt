@@ -3,15 +3,12 @@ ghost use Rattle.std.specs.Prelude.{◌≡◌, []};
 
 mod borrowed;
 mod compared;
-mod entry;
-pub mod order;
 mod well_formed;
 pub mod write;
 
-pub use borrowed::{EntryRef, TreeRef, decode};
-pub use entry::Entry;
+pub use borrowed::{TreeRef, decode};
+pub use gixobj_entries::{Entry, EntryRef, name_order, order};
 pub use gixobj_mode::{EntryKind, EntryMode};
-pub use order::name_order;
 use std::alloc::Global;
 use std::marker::Model;
 
@@ -25,7 +22,7 @@ pub struct Tree {
 
 impl Model for Tree {
     ghost use Rattle.std.specs.Prelude.{List};
-    ghost use Rattle.gixobj_tree.specs.Entries.{EntryView};
+    ghost use Rattle.gixobj_entries.specs.Entries.{EntryView};
 
     ghost Value = { List EntryView };
 

@@ -10,7 +10,7 @@ ghost use Rattle.gixobj_files.specs.Bases.{opened_bases};
 ghost use Rattle.gixobj_directories.specs.Openings.{EndsBefore, OfTrees};
 ghost use Rattle.gixobj_hash.specs.declared.hash.object_id.ObjectId.{ObjectId};
 ghost use Rattle.gixobj_hash.specs.Bytes.{slash};
-ghost use Rattle.gixobj_tree.specs.Entries.{EntryView};
+ghost use Rattle.gixobj_entries.specs.Entries.{EntryView};
 ghost use Rattle.gixobj_tree.specs.WellFormed.{IsEntryName};
 ghost use Rattle.gixobj_mode.specs.Mode.{is_tree_mode};
 ghost use Rattle.gixobj_editor.specs.Upserts.{IsFirstNameError, StartsInvalid, directory_of};

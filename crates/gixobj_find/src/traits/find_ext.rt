@@ -17,7 +17,7 @@ ghost use Rattle.gixobj_ref_iter.specs.TagTokenSteps.{IsAtStartOfTag};
 ghost use Rattle.gixobj_tag.specs.TagFormat.{DecodesToTag};
 ghost use Rattle.gixobj_tag.specs.TagViews.{tag_lines};
 ghost use Rattle.gixobj_ref_iter.specs.CommitTokenSteps.{IsAtStartOfCommit};
-ghost use Rattle.gixobj_tree.specs.TreeDecoding.{DecodesToTree};
+ghost use Rattle.gixobj_entries.specs.TreeDecoding.{DecodesToTree};
 ghost use Rattle.gixobj_tree.specs.TreeViews.{tree_entries};
 
 use crate::find::{existing, existing_iter, existing_object};

@@ -4,21 +4,20 @@ ghost use Rattle.std.specs.List.Sorted.{IsBinarySearchResult, IsSearchInRange};
 ghost use Rattle.std.specs.declared.cmp.Ordering.TheVariants.{Equal};
 ghost use Rattle.gixobj_hash.specs.Bytes.{slash};
 ghost use Rattle.gixobj_hash.specs.ByteStrings.{IsByteFree};
-ghost use Rattle.gixobj_tree.specs.KeyOrder.{entry_key, key_of, name_cmp};
+ghost use Rattle.gixobj_entries.specs.KeyOrder.{entry_key, key_of, name_cmp};
 ghost use Rattle.gixobj_tree.specs.WellFormed.{HasKey, IsWellFormed};
 ghost use Rattle.gixobj_mode.specs.Mode.{is_tree_mode};
-ghost use Rattle.gixobj_tree.specs.TreeViews.{entry_view, tree_entries};
+ghost use Rattle.gixobj_entries.specs.EntryViews.{entry_view};
+ghost use Rattle.gixobj_tree.specs.TreeViews.{tree_entries};
 ghost use Rattle.bstr.specs.BStr.{bstr_bytes};
 
 mod compared;
 pub mod decode;
-mod entry_ref;
 mod owned;
 mod write;
 
-use crate::tree::name_order;
+use crate::tree::{EntryRef, name_order};
 use bstr::BStr;
-pub use entry_ref::EntryRef;
 use std::alloc::Global;
 use std::cmp::Ordering;
 

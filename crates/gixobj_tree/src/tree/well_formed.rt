@@ -1,10 +1,14 @@
 //! Well-formed trees (gitdatamodel, "trees").
-ghost use Rattle.std.specs.Prelude.{◌↔◌, IsTrue};
-ghost use Rattle.gixobj_tree.specs.KeyOrder.{ComesBefore};
+ghost use Rattle.std.specs.Prelude.{◌≡◌, ◌↔◌, IsTrue};
+ghost use Rattle.std.specs.Cmp.Lexicographic.{slice_cmp};
+ghost use Rattle.std.specs.Ordering.{nat_cmp};
+ghost use Rattle.gixobj_entries.specs.KeyOrder.{ComesBefore, entry_key, key_of};
 ghost use Rattle.gixobj_tree.specs.WellFormed.{AreApart, EachLater, HasKey, HasNamesake, HaveEntryNames, IsEntryName, IsWellFormed};
 
 use super::{Entry, Tree};
+use gixobj_entries::order::key_order;
 use gixobj_hash::split::has_byte;
+use std::cmp::Ordering;
 
 impl Tree {
     /// Returns whether the tree is well-formed.
@@ -39,7 +43,7 @@ fn is_entry_name(name: &[u8]) -> bool
 fn ascend(entries: &[Entry]) -> bool
     ensures { IsTrue result ↔ EachLater ComesBefore entries.now }
 {
-    entries.is_sorted_by(|entry, next| entry.key_order(next).is_lt())
+    entries.is_sorted_by(|entry, next| entry_key_order(entry, next).is_lt())
 }
 
 /// Returns whether names are distinct. Among ascending entries only a file and a directory can share one.
@@ -65,6 +69,25 @@ fn has_key(entries: &[Entry], key: &[u8]) -> bool
     ensures { IsTrue result ↔ HasKey entries.now key.now }
 {
     entries
-        .binary_search_by(|entry| entry.key_order_with(key, false))
+        .binary_search_by(|entry| key_order_with(entry, key, false))
         .is_ok()
+}
+
+/// Compares the keys of two entries.
+fn entry_key_order(entry: &Entry, next: &Entry) -> Ordering
+    ensures { result ≡ slice_cmp nat_cmp (entry_key entry.now) (entry_key next.now) }
+{
+    key_order_with(entry, next.filename.as_bytes(), next.mode.is_tree())
+}
+
+/// Compares the key of an entry with the key of this name.
+fn key_order_with(entry: &Entry, name: &[u8], is_tree: bool) -> Ordering
+    ensures { result ≡ slice_cmp nat_cmp (entry_key entry.now) (key_of name.now is_tree) }
+{
+    key_order(
+        entry.filename.as_bytes(),
+        entry.mode.is_tree(),
+        name,
+        is_tree,
+    )
 }

@@ -3,7 +3,7 @@ use Rattle.gix_object.specs.EntrySteps.{NextEntry}
 use Rattle.gix_object.specs.Runs.{broken, complete}
 use Rattle.gix_object.specs.TreeViews.{entry_view}
 use Rattle.gix_object.specs.hash.decode.Error.{Error}
-use Rattle.gix_object.specs.tree.tree.borrowed.entry_ref.EntryRef.{EntryRef}
+use Rattle.gix_object.specs.entries.entry_ref.EntryRef.{EntryRef}
 use Rattle.gixobj_callers.proofs.planner.is_tree.Goals as goal
 
 pub returns-in-Err : goal.returns-in-Err

@@ -17,7 +17,7 @@ use Rattle.gixobj_open.proofs.Levels.{dirs_of_nil, all_names_differ, in_part_non
 use Rattle.gixobj_open.proofs.Pieces.{IsFound, is_changed, is_child, is_pieced_level_with_open}
 use Rattle.gixobj_directories.proofs.OpeningSteps.{HaltsAt, IsFormedList, OpensAs, StaysOpened, counted_append, down_in, found_in, halts_at_goes_down, halts_at_goes_in, stops_opening_here, is_level_of_new_child, stops_opening_for_memory, stops_opening_not_found, opens_goes_down, opens_goes_in, stays_opened_goes_down, stays_opened_goes_in, is_opened_after_opening, opens_stopped_here}
 use Rattle.gixobj_open.proofs.Steps.{names_of_nil}
-use Rattle.gixobj_tree.specs.Entries.{EntryView}
+use Rattle.gixobj_entries.specs.Entries.{EntryView}
 use Rattle.gixobj_open.specs.Descents.{KeepsOpen}
 use Rattle.gixobj_directories.proofs.OpeningDescents.{KeepsEntries, keeps_goes_down, keeps_goes_in, keeps_open_of_same}
 use Rattle.gixobj_files.specs.Bases.{base_opened}

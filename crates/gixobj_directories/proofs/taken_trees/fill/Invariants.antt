@@ -1,6 +1,6 @@
 use Rattle.std.proofs.Common.{◌≡◌, ◌++◌, List, drop, take}
 use Rattle.std.specs.Prelude.{reverse}
-use Rattle.gixobj_tree.specs.Entries.{Pair}
+use Rattle.gixobj_entries.specs.Entries.{Pair}
 use Rattle.gixobj_directories.specs.TakenTrees.{Fills}
 use Rattle.gixobj_directories.proofs.taken_trees.fill.Given as goal
 

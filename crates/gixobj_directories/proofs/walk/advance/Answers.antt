@@ -4,7 +4,7 @@ use Rattle.std.proofs.Common.{◌≡◌, ◌∙◌, ◌+◌, ◌++◌, ◌<◌, 
 use Rattle.std.specs.Fn.{CalledAt}
 use Rattle.std.specs.Option.{option_copied}
 use Rattle.std.proofs.lemmas.List.{drop_all}
-use Rattle.gixobj_tree.specs.Entries.{EntryView}
+use Rattle.gixobj_entries.specs.Entries.{EntryView}
 use Rattle.gixobj_files.specs.Emission.{entry_unless_null}
 use Rattle.gixobj_directories.specs.Frames.{EmitsNext, HasEmitted, Waits, held_entries}
 use Rattle.gixobj_directories.specs.TakenTrees.{child_leaf_trees}

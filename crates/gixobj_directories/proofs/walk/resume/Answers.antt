@@ -1,6 +1,6 @@
 use Rattle.std.proofs.Common.{◌≡◌, ◌∙◌, ◌<◌, ℕ, [], List, Ok, Err, get_or, length, refl, sym, ap, subst}
 use Rattle.std.specs.Fn.{CalledAt}
-use Rattle.gixobj_tree.specs.Entries.{EntryView}
+use Rattle.gixobj_entries.specs.Entries.{EntryView}
 use Rattle.gixobj_directories.specs.Frames.{EmitsAfter, EmitsWritten, held_entries, written_entries}
 use Rattle.gixobj_directories.specs.WriteErrors.{IsWriteError, entry_if_some}
 use Rattle.gixobj_directories.proofs.Emitting.{if_err_weaken, stopped_after_folds, stopped_at_call}

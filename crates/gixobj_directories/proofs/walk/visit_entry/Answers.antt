@@ -4,7 +4,7 @@ use Rattle.std.proofs.Common.{◌≡◌, ◌≢◌, ◌∙◌, ℕ, [], ◌∷�
 use Rattle.std.specs.Fn.{CalledAt}
 use Rattle.std.specs.Option.{option_copied}
 use denote.Ref.{Bor}
-use Rattle.gixobj_tree.specs.Entries.{EntryView, Pair}
+use Rattle.gixobj_entries.specs.Entries.{EntryView, Pair}
 use Rattle.gixobj_hash.specs.declared.hash.object_id.ObjectId.{ObjectId}
 use Rattle.gixobj_files.specs.Emission.{EmitsBelow, entry_unless_null, of_entries}
 use Rattle.gixobj_files.specs.Opening.{Dirs}

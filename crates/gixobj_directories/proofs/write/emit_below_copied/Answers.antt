@@ -1,6 +1,6 @@
 use Rattle.std.proofs.Common.{◌∙◌, ℕ, [], List, Some, Ok, Err, refl, sym, ap, subst}
 use Rattle.std.specs.Fn.{CalledAt}
-use Rattle.gixobj_tree.specs.Entries.{EntryView}
+use Rattle.gixobj_entries.specs.Entries.{EntryView}
 use Rattle.gixobj_directories.specs.Calls.{IsStorable}
 use Rattle.gixobj_files.specs.Emission.{EmitsBelow, of_entries}
 use Rattle.gixobj_open.specs.Nested.{Opened, bases_of, dirs_of}

@@ -2,7 +2,7 @@
 use Rattle.std.proofs.Common.{List, subst}
 use Rattle.gixobj_edit.proofs.Emitted.{has_run_of_answers}
 use Rattle.gixobj_edit.proofs.edits.replies_of.Goals as goal
-use Rattle.gixobj_tree.specs.Entries.{EntryView}
+use Rattle.gixobj_entries.specs.Entries.{EntryView}
 use Rattle.gixobj_tree.specs.TreeEncoding.{IsDigestResult}
 
 pub returns-in-Ok-clause-ran : goal.returns-in-Ok-clause-ran

@@ -10,7 +10,7 @@ use Rattle.gixobj_files.specs.State.{State}
 use Rattle.gixobj_files.specs.Unopened.{with_empty_name}
 use Rattle.gixobj_hash.specs.declared.hash.object_id.ObjectId.{ObjectId}
 use Rattle.gixobj_store.specs.Stores.{StoreModel}
-use Rattle.gixobj_tree.specs.Entries.{EntryView}
+use Rattle.gixobj_entries.specs.Entries.{EntryView}
 use Rattle.gixobj_editor.specs.Replies.{IsReplyAt}
 use Rattle.gixobj_editor.specs.declared.reply.Reply.TheVariants as reply
 use Rattle.gixobj_editor.proofs.Causes.{causes_at}

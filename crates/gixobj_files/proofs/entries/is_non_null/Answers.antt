@@ -1,5 +1,5 @@
 use Rattle.std.proofs.Common.{◌∙◌, ap, not}
-use Rattle.gixobj_tree.specs.Entries.{EntryView}
+use Rattle.gixobj_entries.specs.Entries.{EntryView}
 use Rattle.gixobj_files.specs.Files.{is_null}
 use Rattle.gixobj_files.proofs.NullIds.{is_null_of_test}
 use Rattle.gixobj_files.proofs.entries.is_non_null.Goals as goal

@@ -1,7 +1,7 @@
 use Rattle.std.proofs.Common.{rules, ◌∙◌, not, ap}
 use Rattle.std.proofs.lemmas.Fn.{filter_same}
 use Rattle.std.proofs.lemmas.List.{with_items_is}
-use Rattle.gixobj_tree.specs.Entries.{EntryView}
+use Rattle.gixobj_entries.specs.Entries.{EntryView}
 use Rattle.gixobj_files.specs.Editing.{non_null_entries}
 use Rattle.gixobj_files.specs.Files.{is_null}
 use Rattle.gixobj_files.proofs.filtered.filter_entries.Goals as goal

@@ -1,5 +1,5 @@
 use Rattle.std.proofs.Common.{◌∙◌, true, ap, length, arith}
-use Rattle.gixobj_tree.specs.KeyOrder.{entry_key, key_of}
+use Rattle.gixobj_entries.specs.KeyOrder.{entry_key, key_of}
 use Rattle.gixobj_sorted.specs.Pieces.{without_key}
 use Rattle.gixobj_files.proofs.EitherKind.{without_of_file, without_slashed}
 use Rattle.gixobj_files.proofs.WithEntry.{without_eq}

@@ -1,8 +1,8 @@
 use Rattle.std.proofs.Common.{◌≡◌, ◌∙◌, Some, length, true, refl, sym, ap, subst}
 use Rattle.std.specs.Prelude.{slice_get}
 use Rattle.std.proofs.lemmas.Option.{slice_get_read}
-use Rattle.gixobj_tree.specs.EntryOrder.{same_entry}
-use Rattle.gixobj_tree.specs.EntryOrderLaws.{entry_equiv}
+use Rattle.gixobj_entries.specs.EntryOrder.{same_entry}
+use Rattle.gixobj_entries.specs.EntryOrderLaws.{entry_equiv}
 use Rattle.gixobj_files.specs.WrittenTrees.{with_id}
 use Rattle.gixobj_files.proofs.SameTrees.{same_entry_eq}
 use Rattle.gixobj_files.proofs.written_tree.goes_on.Goals as goal

@@ -2,7 +2,7 @@ use Rattle.std.proofs.Common.{List, ap, refl, subst, ◌∙◌}
 use Rattle.gixobj_files.specs.Emission.{EmitsSome}
 use Rattle.gixobj_files.specs.State.{State, open_bases, open_dirs}
 use Rattle.gixobj_keep.specs.Keeping.{IsStoreErrorAt}
-use Rattle.gixobj_tree.specs.Entries.{Pair}
+use Rattle.gixobj_entries.specs.Entries.{Pair}
 use Rattle.gixobj_import.proofs.Calling.{stopped, written}
 use Rattle.gixobj_import.proofs.Digests.{have_hex_of_id, written_root_id_kind}
 use Rattle.gixobj_import.proofs.Kept.{kept_all, not_kept}

@@ -1,6 +1,6 @@
 use Rattle.std.proofs.Common.{All, subst, ◌∙◌}
 use Rattle.std.proofs.lemmas.List.{take_all}
-use Rattle.gixobj_tree.specs.Entries.{Pair}
+use Rattle.gixobj_entries.specs.Entries.{Pair}
 use Rattle.gixobj_tree.specs.TreeEncoding.{IsEncodableTree}
 use Rattle.gixobj_keep.proofs.Trees.{more_have_encodings, more_kept}
 use Rattle.gixobj_keep.proofs.keeping.keep_all.Goals as goal

@@ -1,7 +1,7 @@
 -- The lines of the entries before the current one.
 use Rattle.std.proofs.Common.{◌≡◌, map, take}
 use Rattle.gixobj_list.specs.Listing.{listing_of}
-use Rattle.gixobj_tree.specs.TreeViews.{entry_view}
+use Rattle.gixobj_entries.specs.EntryViews.{entry_view}
 use Rattle.gixobj_list.proofs.tree.lines.Given as goal
 
 abbrev pub invariant-loop-entry : goal.invariant-loop-entry

@@ -1,6 +1,6 @@
 use Rattle.std.proofs.Common.{List, ap, subst, ◌∙◌}
 use Rattle.gixobj_files.specs.State.{new_state}
-use Rattle.gixobj_tree.specs.Entries.{EntryView}
+use Rattle.gixobj_entries.specs.Entries.{EntryView}
 use Rattle.gixobj_tree.specs.TreeEncoding.{IsDigestResult}
 use Rattle.gixobj_script.specs.Edits.{IsNewEditor}
 use Rattle.gixobj_script.proofs.Reported.{is_edit_of_report}

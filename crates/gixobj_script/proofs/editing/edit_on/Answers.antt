@@ -2,7 +2,7 @@ use Rattle.std.proofs.Common.{Err, List, Result, arith, refl}
 use Rattle.std.specs.Fn.{FnReturnsAt}
 use Rattle.gixobj_hash.specs.declared.hash.object_id.ObjectId.{ObjectId}
 use Rattle.gixobj_store.specs.Stores.{store_model}
-use Rattle.gixobj_tree.specs.Entries.{EntryView}
+use Rattle.gixobj_entries.specs.Entries.{EntryView}
 use Rattle.gixobj_script.proofs.RunsSoFar.{is_reported_of_so_far, is_run_so_far_of_nothing, is_run_so_far_of_step, after_error_of_so_far}
 use Rattle.gixobj_script.specs.declared.script.ScriptError.TheVariants.{OutOfMemory}
 use Rattle.gixobj_script.proofs.editing.edit_on.Goals as goal

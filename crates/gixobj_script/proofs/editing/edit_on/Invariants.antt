@@ -4,7 +4,7 @@ use Rattle.std.specs.Fn.{FnReturnsAt}
 use Rattle.std.specs.Vec.Iter.{into_iter_items}
 use Rattle.gixobj_hash.specs.declared.hash.object_id.ObjectId.{ObjectId}
 use Rattle.gixobj_store.specs.Stores.{store_model}
-use Rattle.gixobj_tree.specs.Entries.{EntryView}
+use Rattle.gixobj_entries.specs.Entries.{EntryView}
 use Rattle.gixobj_script.proofs.RunsSoFar.{IsRunSoFar}
 use Rattle.gixobj_script.proofs.editing.edit_on.Given as goal
 

@@ -1,5 +1,5 @@
 use Rattle.std.proofs.Common.{not, subst, List, ℕ, Bool}
-use Rattle.gixobj_tree.specs.KeyOrder.{key_of}
+use Rattle.gixobj_entries.specs.KeyOrder.{key_of}
 use Rattle.gixobj_sorted.specs.Pieces.{HasGap, item_key}
 use Rattle.gixobj_sorted.proofs.gaps.is_alone_in.Goals as goal
 

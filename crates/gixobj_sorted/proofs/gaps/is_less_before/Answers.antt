@@ -1,6 +1,6 @@
 use Rattle.std.proofs.Common.{◌∙◌, ◌-◌, ◌<◌, Less, suc, length, sym, subst, arith}
 use Rattle.std.proofs.lemmas.Bool.{eqb-true}
-use Rattle.gixobj_tree.specs.KeyOrder.{key_of}
+use Rattle.gixobj_entries.specs.KeyOrder.{key_of}
 use Rattle.gixobj_sorted.specs.Pieces.{IsLessBefore, item_key}
 use Rattle.gixobj_sorted.proofs.BinarySearch.{less_of_compare, looked}
 use Rattle.gixobj_sorted.proofs.gaps.is_less_before.Goals as goal

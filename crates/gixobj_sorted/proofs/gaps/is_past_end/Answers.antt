@@ -1,5 +1,5 @@
 use Rattle.std.proofs.Common.{◌∙◌, ◌-◌, ◌<◌, length, ap, subst, arith}
-use Rattle.gixobj_tree.specs.KeyOrder.{key_of}
+use Rattle.gixobj_entries.specs.KeyOrder.{key_of}
 use Rattle.gixobj_sorted.specs.Pieces.{HasGap, item_key}
 use Rattle.gixobj_sorted.proofs.Neighbours.{find_none_about_more}
 use Rattle.gixobj_sorted.proofs.gaps.is_past_end.Goals as goal

@@ -1,7 +1,7 @@
 use Rattle.std.proofs.Common.{◌∙◌, ◌-◌, ◌<◌, length, refl, sym, ap, subst, arith, rules}
 use Rattle.std.specs.List.{find}
 use Rattle.std.proofs.lemmas.List.Sums.{prefix_len-le-length}
-use Rattle.gixobj_tree.specs.KeyOrder.{key_of}
+use Rattle.gixobj_entries.specs.KeyOrder.{key_of}
 use Rattle.gixobj_sorted.specs.Pieces.{IsAscending, begins_at_most, has_key, item_key}
 use Rattle.gixobj_sorted.proofs.Joined.{each_later_in_piece, find_joined_first, find_joined_more}
 use Rattle.gixobj_sorted.proofs.Keys.{is_ascending_of_append_left, is_ascending_of_append_right}

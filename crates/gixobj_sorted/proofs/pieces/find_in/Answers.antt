@@ -1,5 +1,5 @@
 use Rattle.std.proofs.Common.{◌∙◌, Some, sym, ap}
-use Rattle.gixobj_tree.specs.KeyOrder.{key_of}
+use Rattle.gixobj_entries.specs.KeyOrder.{key_of}
 use Rattle.gixobj_sorted.specs.Pieces.{item_key}
 use Rattle.gixobj_sorted.proofs.OnePiece.{find_of_found, find_of_none}
 use Rattle.gixobj_sorted.proofs.pieces.find_in.Goals as goal

@@ -4,7 +4,7 @@ use Rattle.std.proofs.Common.{◌≡◌, ◌∙◌, ◌-◌, ◌+◌, ◌<◌, �
 use Rattle.std.specs.List.{flat_map}
 use Rattle.std.proofs.lemmas.List.{get_or_default}
 use Rattle.std.proofs.lemmas.List.Sums.{prefix_len-le-length}
-use Rattle.gixobj_tree.specs.KeyOrder.{key_of}
+use Rattle.gixobj_entries.specs.KeyOrder.{key_of}
 use Rattle.gixobj_sorted.specs.Pieces.{AreNonEmpty, IsAscending, begins_at_most, item_key, joined, without_key}
 use Rattle.gixobj_sorted.proofs.Joined.{are_non_empty_remove, are_non_empty_set, each_later_in_piece, flat_map_remove_empty, is_pieced_of_without_key, length_joined_shorter, without_key_joined_first, without_key_joined_more}
 use Rattle.gixobj_sorted.proofs.Keys.{is_ascending_of_append_left, is_ascending_of_append_right}

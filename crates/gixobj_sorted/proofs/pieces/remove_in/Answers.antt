@@ -1,5 +1,5 @@
 use Rattle.std.proofs.Common.{◌∙◌}
-use Rattle.gixobj_tree.specs.KeyOrder.{key_of}
+use Rattle.gixobj_entries.specs.KeyOrder.{key_of}
 use Rattle.gixobj_sorted.specs.Pieces.{item_key}
 use Rattle.gixobj_sorted.proofs.OnePiece.{remove_of_found_in, without_key_of_none_in}
 use Rattle.gixobj_sorted.proofs.pieces.remove_in.Goals as goal

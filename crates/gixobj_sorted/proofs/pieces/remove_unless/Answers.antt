@@ -1,4 +1,4 @@
-use Rattle.gixobj_tree.specs.KeyOrder.{key_of}
+use Rattle.gixobj_entries.specs.KeyOrder.{key_of}
 use Rattle.gixobj_sorted.specs.Pieces.{item_key}
 use Rattle.gixobj_sorted.proofs.Neighbours.{without_key_of_find_none}
 use Rattle.gixobj_sorted.proofs.pieces.remove_unless.Goals as goal

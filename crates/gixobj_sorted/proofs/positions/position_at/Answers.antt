@@ -1,4 +1,4 @@
-use Rattle.gixobj_tree.specs.KeyOrder.{key_of}
+use Rattle.gixobj_entries.specs.KeyOrder.{key_of}
 use Rattle.gixobj_sorted.specs.Pieces.{item_key}
 use Rattle.gixobj_sorted.proofs.OnePiece.{find_of_none}
 use Rattle.gixobj_sorted.proofs.FlatIndices.{key_of_has_key}

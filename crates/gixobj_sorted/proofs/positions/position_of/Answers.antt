@@ -4,7 +4,7 @@ use Rattle.std.proofs.Common.{◌≡◌, ◌∙◌, ◌-◌, ◌<◌, Some, suc,
 use Rattle.std.specs.List.{HoldsAt, find, position}
 use Rattle.std.proofs.lemmas.List.{get_or_default}
 use Rattle.std.proofs.lemmas.List.Sums.{prefix_len-le-length}
-use Rattle.gixobj_tree.specs.KeyOrder.{key_of}
+use Rattle.gixobj_entries.specs.KeyOrder.{key_of}
 use Rattle.gixobj_sorted.specs.Pieces.{IsAscending, IsPosition, begins_at_most, flat_index, has_key, item_key, joined}
 use Rattle.gixobj_sorted.proofs.Joined.{each_later_in_piece, find_joined_first, find_joined_more}
 use Rattle.gixobj_sorted.proofs.Keys.{is_ascending_of_append_left, is_ascending_of_append_right}

@@ -1,7 +1,7 @@
 -- Each comparison with a piece's first item narrows the number of pieces.
 use Rattle.std.proofs.Common.{◌≡◌, ◌∙◌, ◌<◌, false, true, length, sym, ap, subst, arith}
 use Rattle.std.proofs.lemmas.List.Sums.{prefix_len-le-length}
-use Rattle.gixobj_tree.specs.KeyOrder.{key_of}
+use Rattle.gixobj_entries.specs.KeyOrder.{key_of}
 use Rattle.gixobj_sorted.specs.Pieces.{begins_at_most, item_key}
 use Rattle.gixobj_sorted.proofs.Keys.{begins_at_most_prefix_closed}
 use Rattle.gixobj_sorted.proofs.PrefixLengths.{lt_prefix_len_of_passes, prefix_len_le_of_fails}

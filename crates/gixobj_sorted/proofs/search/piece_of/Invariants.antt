@@ -1,6 +1,6 @@
 -- The number of pieces is between the bounds, and so is the next position.
 use Rattle.std.proofs.Common.{◌<◌, ◌≤◌, ◌-◌, length}
-use Rattle.gixobj_tree.specs.KeyOrder.{key_of}
+use Rattle.gixobj_entries.specs.KeyOrder.{key_of}
 use Rattle.gixobj_sorted.specs.Pieces.{item_key, pieces_at_most}
 use Rattle.gixobj_sorted.proofs.search.piece_of.Given as goal
 

@@ -1,7 +1,7 @@
 -- Each comparison with an item narrows the positions of the searched key.
 use Rattle.std.proofs.Common.{◌≡◌, ◌∙◌, ◌<◌, ◌≤◌, HoldsAt, Less, Equal, Greater, Ordering, Ok, Err, length, sym, ap, subst, arith}
 use Rattle.std.specs.Ordering.{is_eq}
-use Rattle.gixobj_tree.specs.KeyOrder.{key_of}
+use Rattle.gixobj_entries.specs.KeyOrder.{key_of}
 use Rattle.gixobj_sorted.specs.Pieces.{item_key, key_cmp}
 use Rattle.gixobj_sorted.proofs.BinarySearch.{IsNarrowed, binary_search_position, looked, narrowed_down, narrowed_none, narrowed_up}
 use Rattle.gixobj_sorted.proofs.search.position_in.Goals.{in-Less, in-Greater}

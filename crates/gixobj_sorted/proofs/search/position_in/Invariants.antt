@@ -1,6 +1,6 @@
 -- An item with the key can be at the remaining positions alone, and the next comparison is at one of these.
 use Rattle.std.proofs.Common.{◌<◌, ◌≤◌, ◌-◌, length}
-use Rattle.gixobj_tree.specs.KeyOrder.{key_of}
+use Rattle.gixobj_entries.specs.KeyOrder.{key_of}
 use Rattle.gixobj_sorted.specs.Pieces.{item_key}
 use Rattle.gixobj_sorted.proofs.BinarySearch.{IsNarrowed}
 use Rattle.gixobj_sorted.proofs.search.position_in.Given as goal

@@ -1,7 +1,7 @@
 use Rattle.std.proofs.Common.{◌∙◌, sym, subst, arith}
 use Rattle.std.specs.List.{flat_map}
 use Rattle.std.proofs.lemmas.List.Sums.{prefix_len-le-length}
-use Rattle.gixobj_tree.specs.KeyOrder.{key_of}
+use Rattle.gixobj_entries.specs.KeyOrder.{key_of}
 use Rattle.gixobj_sorted.specs.Pieces.{IsAscending, begins_at_most, item_key}
 use Rattle.gixobj_sorted.proofs.Joined.{is_pieced_of_same_map, joined_of_same_map, pieces_at_most_of_same_map}
 use Rattle.gixobj_sorted.proofs.Keys.{is_ascending_of_append_right}

@@ -2,7 +2,7 @@ use Rattle.std.proofs.Common.{◌∙◌, ◌-◌, ◌<◌, length, refl, sym, ap
 use Rattle.std.specs.List.{flat_map}
 use Rattle.std.proofs.lemmas.List.{get_or_default}
 use Rattle.std.proofs.lemmas.List.Sums.{prefix_len-le-length}
-use Rattle.gixobj_tree.specs.KeyOrder.{key_of}
+use Rattle.gixobj_entries.specs.KeyOrder.{key_of}
 use Rattle.gixobj_sorted.specs.Pieces.{IsAscending, begins_at_most, item_key}
 use Rattle.gixobj_sorted.proofs.Keys.{is_ascending_of_append_right}
 use Rattle.gixobj_sorted.proofs.splits.split_at.Goals.{then-at-eq0+else-not-is_full+in_ok-split_first, else-at-eq0+else-not-is_full-2+in_ok-split_more}

@@ -1,29 +1,11 @@
-//! Owned copies of borrowed trees and entries, and entries borrowed from owned ones.
+//! Owned copies of borrowed trees.
 ghost use Rattle.std.specs.Prelude.{◌≡◌, ◌≢◌, [], IfErr, IfOk, OnOk};
-ghost use Rattle.gixobj_tree.specs.TreeViews.{entry_view, tree_entries};
+ghost use Rattle.gixobj_tree.specs.TreeViews.{tree_entries};
 
-use super::{EntryRef, TreeRef};
-use crate::tree::{Entry, Tree};
-use bstr::{BStr, BString};
+use super::TreeRef;
+use crate::tree::Tree;
 use gixobj_hash::OutOfMemory;
 use std::alloc::Global;
-
-impl EntryRef<'_> {
-    /// Copies the entry into an owned [`Entry`]. The name allocates.
-    ///
-    /// # Errors
-    ///
-    /// [`OutOfMemory`] if the allocation of the name failed.
-    pub fn into_owned(self, alloc: Global) -> Result<Entry, OutOfMemory>
-        ensures { IfOk result (λ entry. entry ≡ entry_view self.entry) }
-    {
-        Ok(Entry {
-            mode: self.mode,
-            filename: BString::from_slice(alloc, self.filename.as_bytes())?,
-            oid: self.oid.to_owned(),
-        })
-    }
-}
 
 /// Conversion
 impl TreeRef<'_> {
@@ -53,18 +35,5 @@ impl TreeRef<'_> {
             entries.push(entry.into_owned(alloc)?)?;
         }
         Ok(Tree { entries })
-    }
-}
-
-impl<'a> From<&'a Entry> for EntryRef<'a> {
-    ghost from_gives = { λ entry borrowed. entry_view borrowed ≡ entry.now };
-
-    /// Borrows the entry.
-    fn from(entry: &'a Entry) -> EntryRef<'a> {
-        EntryRef {
-            mode: entry.mode,
-            filename: BStr::new(entry.filename.as_bytes()),
-            oid: entry.oid.as_oid(),
-        }
     }
 }

@@ -1,6 +1,6 @@
 use Rattle.std.proofs.Common.{◌∙◌, List, [], ap, refl, sym}
 use Rattle.gixobj_files.specs.State.{State, new_state}
-use Rattle.gixobj_tree.specs.Entries.{EntryView}
+use Rattle.gixobj_entries.specs.Entries.{EntryView}
 use Rattle.gixobj_import.proofs.import.Importer.new.Goals as goal
 
 pub returns-clause-new : goal.returns-clause-new

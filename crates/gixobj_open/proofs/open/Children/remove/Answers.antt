@@ -1,6 +1,6 @@
 use Rattle.std.proofs.Common.{◌∙◌, List, ℕ, ap, true}
 use Rattle.bstr.specs.Owned.{bstring_bytes}
-use Rattle.gixobj_tree.specs.KeyOrder.{key_of}
+use Rattle.gixobj_entries.specs.KeyOrder.{key_of}
 use Rattle.gixobj_sorted.specs.Pieces.{without_key}
 use Rattle.gixobj_open.specs.Nested.{child_key, child_list, parts}
 use Rattle.gixobj_open.proofs.Ordered.{parts_without_key}

@@ -1,0 +1,9 @@
+pub mod Entries
+pub mod EntryOrder
+pub mod EntryOrderLaws
+pub mod EntryViews
+pub mod KeyOrder
+pub mod TreeDecoding
+pub use Rattle.gixobj_fields.specs.Runs
+pub use Rattle.gixobj_hash.specs.ByteStrings
+pub use Rattle.gixobj_hash.specs.Hash
