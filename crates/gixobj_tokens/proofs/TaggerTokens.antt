@@ -4,7 +4,6 @@ use Rattle.bstr.specs.BStr.{bstr_bytes}
 use Rattle.bstr.specs.declared.bstr.BStr.{BStr}
 use Rattle.gixobj_actor.specs.Actor.{actor_view}
 use Rattle.gixobj_actor.specs.declared.actor.SignatureRef.{SignatureRef}
-use Rattle.gixobj_fields.specs.Runs.{HasNoPiece}
 use Rattle.gixobj_hash.specs.declared.hash.kind.Kind as hash
 use Rattle.gixobj_line.specs.TagLines.{BeginsWithMalformedTagger, BeginsWithTagger}
 use Rattle.gixobj_line.specs.TagLineViews.{IsParsedTagger, line_if_some}
@@ -20,7 +19,7 @@ is_token_of_tagger tagger line actor parsed same =
     let it : IsParsedTagger (Some (line, actor)) = subst IsParsedTagger same parsed in
     rw same (yields_tagger (bstr_bytes line) (actor_view actor) it.0 it.1)
 
-begins_with_token_of_tagger : (kind : hash.Kind) (input rest : List ℕ) (line : Option (List ℕ)) (token : TagTokenView) → input ≢ []
+pub begins_with_token_of_tagger : (kind : hash.Kind) (input rest : List ℕ) (line : Option (List ℕ)) (token : TagTokenView) → input ≢ []
     → BeginsWithTagger input line rest
     → IsTokenOfTagger line token → BeginsWithTagToken kind state.Tagger input token state.Body rest
 begins_with_token_of_tagger kind input rest (Some line) token filled (field, _) (yields_tagger _ actor after is) =
@@ -28,20 +27,10 @@ begins_with_token_of_tagger kind input rest (Some line) token filled (field, _) 
 begins_with_token_of_tagger kind input rest None token filled (lacks, same) yields_no_tagger =
     rw same (no_tagger_comes input filled lacks)
 
-pub has_tagger_token : (kind : hash.Kind) (before : State) (input rest : List ℕ) (line : Option (List ℕ)) (token : TagTokenView) → before ≡ state.Tagger
-    → input ≢ [] → BeginsWithTagger input line rest → IsTokenOfTagger line token
-    → BeginsWithTagToken kind before input token state.Body rest
-has_tagger_token kind before input rest line token same filled has yields = rw same (begins_with_token_of_tagger kind input rest line token filled has yields)
-
 -- ---- no token
 
-no_token_of_malformed_tagger : (kind : hash.Kind) (input : List ℕ) (token : TagTokenView) (after : State) (rest : List ℕ) → BeginsWithMalformedTagger input
+pub no_token_of_malformed_tagger : (kind : hash.Kind) (input : List ℕ) (token : TagTokenView) (after : State) (rest : List ℕ) → BeginsWithMalformedTagger input
     → BeginsWithTagToken kind state.Tagger input token after rest → ⊥
 no_token_of_malformed_tagger kind input token after rest none (tagger_comes _ line _ actor bytes field is) =
     none (Some line) rest (field, (actor.name, actor.email, actor.time, bytes, is))
 no_token_of_malformed_tagger kind input token after rest none (no_tagger_comes _ filled lacks) = none None input (lacks, refl)
-
-pub has_no_tagger_token : (kind : hash.Kind) (before : State) (input : List ℕ) → before ≡ state.Tagger → BeginsWithMalformedTagger input
-    → HasNoPiece (BeginsWithTagToken kind) before input
-has_no_tagger_token kind before input same none token after rest has = no_token_of_malformed_tagger kind input token after rest none
-    (subst (λ (it : State). BeginsWithTagToken kind it input token after rest) same has)

@@ -2,7 +2,9 @@
 ghost use Rattle.std.specs.Prelude.{◌≡◌, ◌≢◌, [], IfNone, IfSome, MatchOption, None, Some};
 ghost use Rattle.gixobj_fields.specs.Runs.{HasNoPiece};
 ghost use Rattle.gixobj_hash.specs.Hash.Borrowed.{borrowed_id};
+ghost use Rattle.gixobj_hash.specs.declared.hash.kind.Kind as hash;
 ghost use Rattle.gixobj_line.specs.TagLineViews.{IsParsedTagger, line_if_some};
+ghost use Rattle.gixobj_tokens.specs.declared.tag.State.TheVariants as state;
 ghost use Rattle.gixobj_tokens.specs.TagTokens.{BeginsWithTagToken, IsTokenOfTagger, tag_token_id, tag_token_view};
 
 use crate::bodies::body;
@@ -15,7 +17,7 @@ use gixobj_hash::{Kind, hash};
 use gixobj_line::tags::{self, TaggerLine};
 
 /// The state of a tag's decoder: which token may come next.
-#[derive(Clone, Copy, Debug)]
+#[derive(Clone, Copy)]
 pub enum State {
     /// Before the target.
     Target,
@@ -39,7 +41,6 @@ pub enum State {
 ///
 /// Returns `None` if the input begins with no token that may come in this state. The input has at least one
 /// byte. Allocates nothing.
-#[tactic(auto, using(crate::specs::TagTokens::target_comes, crate::specs::TagTokens::kind_comes, crate::specs::TagTokens::name_comes, crate::specs::TagTokens::body_comes))]
 pub fn decode_token(
     input: &[u8],
     before: State,
@@ -51,29 +52,89 @@ pub fn decode_token(
     ensures none { IfNone result (HasNoPiece (BeginsWithTagToken hash_kind) before input.now) }
 {
     match before {
-        State::Target => {
-            let (hex, rest) = header_id(input, b"object", hash_kind)?;
-            let id = id_of_hex(hex);
-            Some((Token::Target { id }, State::TargetKind, rest))
-        }
-        State::TargetKind => {
-            let (kind, rest) = header_kind(input, b"type")?;
-            Some((Token::TargetKind(kind), State::Name, rest))
-        }
-        State::Name => {
-            let (name, rest) = tags::name(input)?;
-            Some((Token::Name(name), State::Tagger, rest))
-        }
-        State::Tagger => {
-            let (tagger, rest) = tags::tagger(input)?;
-            Some((tagger_token(tagger), State::Body, rest))
-        }
-        State::Body => {
-            let (message, signature) = body(input)?;
-            Some((Token::Body { message, signature }, State::End, b""))
-        }
+        State::Target => decode_target(input, hash_kind),
+        State::TargetKind => decode_target_kind(input),
+        State::Name => decode_name(input),
+        State::Tagger => decode_tagger(input),
+        State::Body => decode_body(input),
         State::End => None,
     }
+}
+
+/// Decodes the target.
+#[inline(always)]
+#[tactic(auto, using(crate::specs::TagTokens::target_comes))]
+fn decode_target(input: &[u8], hash_kind: hash::Kind) -> Option<(Token<'_>, State, &[u8])>
+    ensures found { IfSome result (λ it.
+        BeginsWithTagToken hash_kind state.Target input.now (tag_token_view it.0) it.1 it.2.now) }
+    ensures none { IfNone result (HasNoPiece (BeginsWithTagToken hash_kind) state.Target input.now) }
+{
+    let Some((hex, rest)) = header_id(input, b"object", hash_kind) else {
+        return None;
+    };
+    let id = id_of_hex(hex);
+    Some((Token::Target { id }, State::TargetKind, rest))
+}
+
+/// Decodes the kind of the target.
+#[inline(always)]
+#[tactic(auto, using(crate::specs::TagTokens::kind_comes))]
+fn decode_target_kind(input: &[u8]) -> Option<(Token<'_>, State, &[u8])>
+    ensures found { (kind : hash.Kind) → IfSome result (λ it.
+        BeginsWithTagToken kind state.TargetKind input.now (tag_token_view it.0) it.1 it.2.now) }
+    ensures none { (kind : hash.Kind) → IfNone result
+        (HasNoPiece (BeginsWithTagToken kind) state.TargetKind input.now) }
+{
+    let Some((kind, rest)) = header_kind(input, b"type") else {
+        return None;
+    };
+    Some((Token::TargetKind(kind), State::Name, rest))
+}
+
+/// Decodes the name.
+#[inline(always)]
+#[tactic(auto, using(crate::specs::TagTokens::name_comes))]
+fn decode_name(input: &[u8]) -> Option<(Token<'_>, State, &[u8])>
+    ensures found { (kind : hash.Kind) → IfSome result (λ it.
+        BeginsWithTagToken kind state.Name input.now (tag_token_view it.0) it.1 it.2.now) }
+    ensures none { (kind : hash.Kind) → IfNone result
+        (HasNoPiece (BeginsWithTagToken kind) state.Name input.now) }
+{
+    let Some((name, rest)) = tags::name(input) else {
+        return None;
+    };
+    Some((Token::Name(name), State::Tagger, rest))
+}
+
+/// Decodes the tagger, or its absence.
+#[inline(always)]
+fn decode_tagger(input: &[u8]) -> Option<(Token<'_>, State, &[u8])>
+    requires { input.now ≢ [] }
+    ensures found { (kind : hash.Kind) → IfSome result (λ it.
+        BeginsWithTagToken kind state.Tagger input.now (tag_token_view it.0) it.1 it.2.now) }
+    ensures none { (kind : hash.Kind) → IfNone result
+        (HasNoPiece (BeginsWithTagToken kind) state.Tagger input.now) }
+{
+    let Some((tagger, rest)) = tags::tagger(input) else {
+        return None;
+    };
+    Some((tagger_token(tagger), State::Body, rest))
+}
+
+/// Decodes the body.
+#[inline(always)]
+#[tactic(auto, using(crate::specs::TagTokens::body_comes))]
+fn decode_body(input: &[u8]) -> Option<(Token<'_>, State, &[u8])>
+    requires { input.now ≢ [] }
+    ensures found { (kind : hash.Kind) → IfSome result (λ it.
+        BeginsWithTagToken kind state.Body input.now (tag_token_view it.0) it.1 it.2.now) }
+    ensures none { (kind : hash.Kind) → IfNone result
+        (HasNoPiece (BeginsWithTagToken kind) state.Body input.now) }
+{
+    let Some((message, signature)) = body(input) else {
+        return None;
+    };
+    Some((Token::Body { message, signature }, State::End, b""))
 }
 
 /// Returns the token of a tagger, or that of its absence.

@@ -1,12 +1,13 @@
-use Rattle.gixobj_tokens.proofs.TaggerTokens.{has_no_tagger_token, has_tagger_token}
 use Rattle.gixobj_tokens.proofs.tag.decode_token.Goals as goal
 
-pub returns-in_err-tagger-in-Tagger-clause-none : goal.returns-in_err-tagger-in-Tagger-clause-none
-returns-in_err-tagger-in-Tagger-clause-none c =
-    rw c.from_residual-in_err-tagger-in-Tagger.ensures
-    (has_no_tagger_token c.args.hash_kind c.args.before c.args.input.now c.in-Tagger.is c.in_err-tagger-in-Tagger.ensures.none)
+pub returns-in-TargetKind-clause-none : goal.returns-in-TargetKind-clause-none
+returns-in-TargetKind-clause-none c = rw c.in-TargetKind.is (c.decode_target_kind.ensures.none c.args.hash_kind)
 
-pub returns-in_ok-tagger-in-Tagger-clause-found : goal.returns-in_ok-tagger-in-Tagger-clause-found
-returns-in_ok-tagger-in-Tagger-clause-found c =
-    has_tagger_token c.args.hash_kind c.args.before c.args.input.now c.in_ok-tagger-in-Tagger.rest.now _ _ c.in-Tagger.is c.requires
-    c.in_ok-tagger-in-Tagger.ensures.found c.tagger_token.ensures
+pub returns-in-Name-clause-none : goal.returns-in-Name-clause-none
+returns-in-Name-clause-none c = rw c.in-Name.is (c.decode_name.ensures.none c.args.hash_kind)
+
+pub returns-in-Tagger-clause-none : goal.returns-in-Tagger-clause-none
+returns-in-Tagger-clause-none c = rw c.in-Tagger.is (c.decode_tagger.ensures.none c.args.hash_kind)
+
+pub returns-in-Body-clause-none : goal.returns-in-Body-clause-none
+returns-in-Body-clause-none c = rw c.in-Body.is (c.decode_body.ensures.none c.args.hash_kind)
