@@ -282,7 +282,6 @@ fn missing_newline(line: &[u8]) -> &[u8]
 }
 
 /// Splits after the first line, or returns `None` for a last line.
-#[tactic(auto, using(crate::proofs::FieldWrites::folded_split_at_newline, crate::proofs::FieldWrites::rest_after_newline_len_lt, crate::proofs::FieldWrites::is_last_line_of_split))]
 fn first_line(value: &[u8]) -> Option<(&[u8], &[u8])>
     ensures { MatchOption result (IsLastLine value.now)
         (λ it. (folded value.now ≡ it.0.now ++ newline ∷ space ∷ folded it.1.now)

@@ -1,5 +1,5 @@
 use Rattle.std.proofs.lemmas.Result.{err_from_is_err_and}
-use Rattle.gixobj_fields.proofs.HeaderFields.{folded_value_has_newline, no_header_without_space, no_header_of_empty_name, no_header_without_newline, header_error_of_lines}
+use Rattle.gixobj_fields.proofs.HeaderFields.{folded_value_has_newline, has_header_of_one_line, no_header_without_space, no_header_of_empty_name, no_header_without_newline, header_error_of_lines}
 use Rattle.gixobj_fields.proofs.parse.any_header_field.Goals as goal
 
 pub returns-in_default-clause-error : goal.returns-in_default-clause-error
@@ -30,3 +30,8 @@ returns-in_ok-value-in-Some-after_space-clause-borrowed c =
     folded_value_has_newline c.in-Some-split_at_byte.first.now c.in-Some-split_at_byte.after.now c.in_ok-value-in-Some-after_space.value.items
     c.in_ok-value-in-Some-after_space.rest.now
     c.in_ok-value-in-Some-after_space.ensures.found
+
+pub returns-in-None-clause-found : goal.returns-in-None-clause-found
+returns-in-None-clause-found c = rw c.new.ensures (has_header_of_one_line c.args.input.now c.in-Some.name.now c.in-Some.following.now
+    c.in-Some-split_at_byte.first.now c.in-Some-split_at_byte.after.now c.in-Some.ensures.found c.if-not-is_header_name.ensures
+    c.in-Some-split_at_byte.ensures.found c.in-None.ensures)
