@@ -101,3 +101,8 @@ pub encode_actor_is_actor_line : (name email : List ℕ) (seconds offset : ℤ) 
     → IsActorLine (encode_actor name email (encode_time seconds offset)) name email (encode_time seconds offset) []
 encode_actor_is_actor_line name email seconds offset legal fits proper = encode_actor_is_line_of_time name email (encode_time seconds offset) legal
     (encode_time_all_time_bytes seconds offset fits proper)
+
+-- an encoded actor and the bytes after it: the name, the email, and the end of the line
+pub encode_actor_append : (name email time terminator : List ℕ)
+    → encode_actor name email time ++ terminator ≡ name ++ codes " <" ++ email ++ (codes "> " ++ time ++ terminator)
+encode_actor_append name email time terminator = simp append_assoc

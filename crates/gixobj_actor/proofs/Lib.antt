@@ -1,5 +1,6 @@
 pub mod ActorLines
 mod EncodedActors
+mod OffsetBytes
 pub mod OwnedActors
 pub mod SignatureFields
 mod TimeSizes

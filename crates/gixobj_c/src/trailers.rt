@@ -55,16 +55,16 @@ fn trailer_at<'a>(
 {
     let mut trailers = message_trailers(alloc, message);
     let mut remaining = index;
-    while remaining > 0 {
+    'each: loop {
         match trailers.next() {
-            Some(Ok(_)) => remaining -= 1,
+            Some(Ok(trailer)) => {
+                if remaining == 0 {
+                    return Ok(Some(trailer));
+                }
+                remaining -= 1;
+            }
             Some(Err(error)) => return Err(error),
             None => return Ok(None),
         }
-    }
-    match trailers.next() {
-        Some(Ok(trailer)) => Ok(Some(trailer)),
-        Some(Err(error)) => Err(error),
-        None => Ok(None),
     }
 }

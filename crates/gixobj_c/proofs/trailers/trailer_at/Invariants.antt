@@ -4,8 +4,8 @@ use Rattle.bstr.specs.BStr.{bstr_bytes}
 use Rattle.gixobj_c.proofs.TrailerCalls.{HasConsumed}
 use Rattle.gixobj_c.proofs.trailers.trailer_at.Given as goal
 
-abbrev pub invariant-loop-remaining : goal.invariant-loop-remaining
-invariant-loop-remaining l = HasConsumed (bstr_bytes l.fn.message) (l.fn.index - l.remaining) l.trailers × (l.remaining ≤ l.fn.index)
+abbrev pub invariant-each : goal.invariant-each
+invariant-each l = HasConsumed (bstr_bytes l.fn.message) (l.fn.index - l.remaining) l.trailers × (l.remaining ≤ l.fn.index)
 
-abbrev pub decreases-loop-remaining : goal.decreases-loop-remaining
-decreases-loop-remaining l = l.remaining
+abbrev pub decreases-each : goal.decreases-each
+decreases-each l = l.remaining
