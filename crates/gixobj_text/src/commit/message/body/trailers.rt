@@ -146,7 +146,6 @@ impl<'a> Iterator for Trailers<'a> {
 }
 
 /// Returns the token of the next trailer line, the bytes after its colon, and the lines after it.
-#[tactic(auto, using(crate::proofs::TrailerDecoding::is_next_trailer_at_line, crate::proofs::TrailerDecoding::trailers_of_bytes_skip, crate::proofs::TrailerDecoding::first_is_folded_skip, crate::proofs::TrailerDecoding::rest_len_lt, crate::proofs::TrailerDecoding::trailers_of_bytes_nil, crate::proofs::LastLines::last_lines_refl, crate::proofs::LastLines::last_lines_step))]
 fn next_trailer(bytes: &[u8]) -> Option<(&[u8], &[u8], &[u8])>
     ensures { MatchOption result (trailers_of_bytes bytes.now ≡ [])
         (λ it. IsNextTrailer bytes.now it.0.now it.1.now it.2.now) }
