@@ -2,6 +2,7 @@ mod Contents
 pub mod SplitsAtEach
 pub mod Digits
 mod EmptyObjects
+mod HeaderErrors
 pub mod Headers
 pub mod HexCase
 mod HexDigits

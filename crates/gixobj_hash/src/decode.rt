@@ -1,9 +1,11 @@
 //! Decodes loose objects: the header and the content after it (`gitformat-loose`, "Loose object format").
-ghost use Rattle.std.specs.Prelude.{◌≡◌, ◌↔◌, ◌<◌, ◌^◌, ℕ, IsTrue, IfOk, IfErr, Ok, MatchResult};
+ghost use Rattle.std.specs.Prelude.{◌≡◌, ◌↔◌, ◌+◌, ◌<◌, ◌≤◌, ◌^◌, ◌++◌, ◌∷◌, ℕ, List, IsTrue, IfOk, IfErr, Ok, MatchResult, length};
 ghost use Rattle.std.specs.Option.{SomeIff};
 ghost use Rattle.std.specs.Str.Parse.{AllDigits, IsNumeral, digits_value, starts_with_minus};
 ghost use Rattle.gixobj_hash.specs.declared.decode.Error.TheVariants.{OutOfMemory};
 ghost use Rattle.gixobj_hash.specs.declared.kind.Kind.{Kind};
+ghost use Rattle.gixobj_hash.specs.Bytes.{space};
+ghost use Rattle.gixobj_hash.specs.Kind.{kind_name};
 ghost use Rattle.gixobj_hash.specs.Decode.{HasContent, HasLooseHeaderOfLength, HasSizeFault, DecodesToSize, IsLooseHeaderError, IsLooseContentError, IsSizeError, size_digits};
 
 use crate::split::{are_digits, number_from_digits, split_at_byte};
@@ -217,17 +219,40 @@ fn decode_loose_header_parts(
         header.1 header.2) }
     ensures error { IfErr result (IsLooseHeaderError input.now) }
 {
+    let (kind, after) = decode_kind(alloc, input)?;
+    let (size, len) = decode_size_part(alloc, after)?;
+    Ok((kind, size, kind.as_bytes().len() + len))
+}
+
+/// Decodes the kind at the beginning of a loose header. Returns it and the bytes after its space.
+fn decode_kind(alloc: Global, input: &[u8]) -> Result<(Kind, &[u8]), LooseHeaderDecodeError>
+    ensures found { IfOk result (λ it. input.now ≡ kind_name it.0 ++ space ∷ it.1.now) }
+    ensures error { IfErr result (IsLooseHeaderError input.now) }
+{
     let Some((token, after)) = split_at_byte(input, b' ') else {
         let message = "no space after the kind of an object";
         return Err(LooseHeaderDecodeError::InvalidHeader { message });
     };
     let kind = Kind::from_bytes(alloc, token)?;
-    let Some((size_bytes, _)) = split_at_byte(after, 0) else {
+    Ok((kind, after))
+}
+
+/// Decodes the size that a zero byte ends. Returns it and its length, which counts the space before it and
+/// the zero byte.
+fn decode_size_part(alloc: Global, after: &[u8]) -> Result<(u64, usize), LooseHeaderDecodeError>
+    ensures found { IfOk result (λ it. (kind : Kind) (input : List ℕ)
+        → input ≡ kind_name kind ++ space ∷ after.now
+        → HasLooseHeaderOfLength input kind it.0 (length (kind_name kind) + it.1)) }
+    ensures error { IfErr result (λ e. (kind : Kind) (input : List ℕ)
+        → input ≡ kind_name kind ++ space ∷ after.now → IsLooseHeaderError input e) }
+    ensures max_len { IfOk result (λ it. it.1 ≤ length after.now + 1) }
+{
+    let Some((bytes, _)) = split_at_byte(after, 0) else {
         let message = "no zero byte after the size of an object";
         return Err(LooseHeaderDecodeError::InvalidHeader { message });
     };
-    let size = decode_size(alloc, size_bytes)?;
-    Ok((kind, size, token.len() + size_bytes.len() + 2))
+    let size = decode_size(alloc, bytes)?;
+    Ok((size, bytes.len() + 2))
 }
 
 /// Decodes a size, or fails with a copy of the bytes.
