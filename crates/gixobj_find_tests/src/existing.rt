@@ -32,54 +32,78 @@ fn at(reported: ObjectId, requested: ObjectId, answer: Answer) -> Answer {
     }
 }
 
+/// Classifies the failure of a lookup.
+fn of_failure(error: &find::Error) -> Answer {
+    match error {
+        find::Error::OutOfMemory => Answer::WithoutMemory,
+        _ => Answer::Failed,
+    }
+}
+
+/// Classifies the error of an object with the first id that doesn't decode. The second id was looked up.
+fn of_malformed(oid: ObjectId, error: &decode::Error, id: ObjectId) -> Answer {
+    match error {
+        decode::Error::OutOfMemory => Answer::WithoutMemory,
+        _ => at(oid, id, Answer::Damaged),
+    }
+}
+
+/// Classifies the error of a lookup by this id that decodes the object.
+fn of_object_error(error: &existing_object::Error, id: ObjectId) -> Answer {
+    match error {
+        existing_object::Error::Find(error) => of_failure(error),
+        existing_object::Error::Decode { oid, source, .. } => of_malformed(*oid, source, id),
+        existing_object::Error::NotFound { oid } => at(*oid, id, Answer::Missing),
+        existing_object::Error::ObjectKind {
+            oid,
+            actual,
+            expected,
+        } => at(*oid, id, Answer::OfKind(*actual, *expected)),
+    }
+}
+
 /// Classifies the result of a lookup by this id that decodes the object.
 fn classify_object<T: Drop>(found: Result<T, existing_object::Error>, id: ObjectId) -> Answer {
-    match found {
+    match &found {
         Ok(_) => Answer::Found,
-        Err(existing_object::Error::Find(find::Error::OutOfMemory)) => Answer::WithoutMemory,
-        Err(existing_object::Error::Find(_)) => Answer::Failed,
-        Err(
-            existing_object::Error::Decode {
-                source: decode::Error::OutOfMemory,
-                ..
-            },
-        ) => Answer::WithoutMemory,
-        Err(existing_object::Error::Decode { oid, .. }) => at(oid, id, Answer::Damaged),
-        Err(existing_object::Error::NotFound { oid }) => at(oid, id, Answer::Missing),
-        Err(
-            existing_object::Error::ObjectKind {
-                oid,
-                actual,
-                expected,
-            },
-        ) => at(oid, id, Answer::OfKind(actual, expected)),
+        Err(error) => of_object_error(error, id),
+    }
+}
+
+/// Classifies the error of a lookup by this id that returns an iterator.
+fn of_iterator_error(error: &existing_iter::Error, id: ObjectId) -> Answer {
+    match error {
+        existing_iter::Error::Find(error) => of_failure(error),
+        existing_iter::Error::NotFound { oid } => at(*oid, id, Answer::Missing),
+        existing_iter::Error::ObjectKind {
+            oid,
+            actual,
+            expected,
+        } => at(*oid, id, Answer::OfKind(*actual, *expected)),
     }
 }
 
 /// Classifies the result of a lookup by this id that returns an iterator.
 fn classify_iterator<T: Drop>(found: Result<T, existing_iter::Error>, id: ObjectId) -> Answer {
-    match found {
+    match &found {
         Ok(_) => Answer::Found,
-        Err(existing_iter::Error::Find(find::Error::OutOfMemory)) => Answer::WithoutMemory,
-        Err(existing_iter::Error::Find(_)) => Answer::Failed,
-        Err(existing_iter::Error::NotFound { oid }) => at(oid, id, Answer::Missing),
-        Err(
-            existing_iter::Error::ObjectKind {
-                oid,
-                actual,
-                expected,
-            },
-        ) => at(oid, id, Answer::OfKind(actual, expected)),
+        Err(error) => of_iterator_error(error, id),
+    }
+}
+
+/// Classifies the error of a lookup of any object by this id.
+fn of_any_error(error: &existing::Error, id: ObjectId) -> Answer {
+    match error {
+        existing::Error::Find(error) => of_failure(error),
+        existing::Error::NotFound { oid } => at(*oid, id, Answer::Missing),
     }
 }
 
 /// Classifies the result of a lookup of any object by this id.
 fn classify_any<T: Drop>(found: Result<T, existing::Error>, id: ObjectId) -> Answer {
-    match found {
+    match &found {
         Ok(_) => Answer::Found,
-        Err(existing::Error::Find(find::Error::OutOfMemory)) => Answer::WithoutMemory,
-        Err(existing::Error::Find(_)) => Answer::Failed,
-        Err(existing::Error::NotFound { oid }) => at(oid, id, Answer::Missing),
+        Err(error) => of_any_error(error, id),
     }
 }
 

@@ -114,15 +114,22 @@ fn writes_nothing_of_tree_with_invalid_name(rt: HostRuntime) {
     assert!(rt; is_rejected(rt.alloc(), &unwritable(rt.alloc())));
 }
 
-/// The streams of two writes of bytes, of two writes of streams, and of a blob.
-fn streams(alloc: Global) -> Result<[Stream; 5], AllocError> {
-    Ok([
-        stream(alloc, Kind::Tag, b"a")?,
-        stream(alloc, Kind::Blob, b"bc")?,
-        stream(alloc, Kind::Tree, b"def")?,
-        stream(alloc, Kind::Commit, b"g")?,
-        stream(alloc, Kind::Blob, b"hi")?,
-    ])
+/// The kinds and bytes of two writes of bytes, of two writes of streams, and of a blob.
+const WRITES: &[(Kind, &[u8])] = &[
+    (Kind::Tag, b"a"),
+    (Kind::Blob, b"bc"),
+    (Kind::Tree, b"def"),
+    (Kind::Commit, b"g"),
+    (Kind::Blob, b"hi"),
+];
+
+/// The streams of these writes.
+fn streams(alloc: Global) -> Result<Vec<Stream>, AllocError> {
+    let mut streams = Vec::new(alloc);
+    for &(kind, bytes) in WRITES {
+        streams.push(stream(alloc, kind, bytes)?)?;
+    }
+    Ok(streams)
 }
 
 /// Returns whether a store has these streams.
