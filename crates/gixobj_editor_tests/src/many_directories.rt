@@ -1,7 +1,7 @@
 //! Edits below more open directories than one piece of their list holds, in several orders. Ids are those that
 //! `git mktree --missing` prints.
 
-use crate::samples::{empty_editor, has_id_and_count, insert, written};
+use crate::samples::{empty_editor, has_id_and_count, insert, push_name, written};
 use bstr::BString;
 use gixobj_editor::editor::Editor;
 use gixobj_keep::Memory;
@@ -25,14 +25,14 @@ fn digit(value: u16) -> u8 {
 fn directory_path(alloc: Global, number: u16) -> Result<Vec<BString>, AllocError> {
     let digits = [b'd', digit(number / 100), digit(number / 10), digit(number)];
     let mut path = Vec::new(alloc);
-    path.push(BString::from_slice(alloc, &digits)?)?;
+    push_name(alloc, &mut path, &digits)?;
     Ok(path)
 }
 
 /// Builds the path of the file in the directory of a number.
 fn file_path(alloc: Global, number: u16) -> Result<Vec<BString>, AllocError> {
     let mut path = directory_path(alloc, number)?;
-    path.push(BString::from_slice(alloc, b"f")?)?;
+    push_name(alloc, &mut path, b"f")?;
     Ok(path)
 }
 

@@ -24,11 +24,17 @@ const UNORDERED: &[u8] = b"100644 b\0aaaaaaaaaaaaaaaaaaaa100644 a\0aaaaaaaaaaaaa
 
 /// Builds a tree of five directories: `a` and `m` by these ids, and three whose lookups fail.
 fn five_directories(alloc: Global, a: ObjectId, m: ObjectId) -> Result<Tree, AllocError> {
-    let mut tree = tree_of(alloc, EntryKind::Tree, b"a", a)?;
-    push_entry(alloc, &mut tree, EntryKind::Tree, b"l", TOO_LARGE)?;
-    push_entry(alloc, &mut tree, EntryKind::Tree, b"m", m)?;
-    push_entry(alloc, &mut tree, EntryKind::Tree, b"o", UNREADABLE)?;
-    push_entry(alloc, &mut tree, EntryKind::Tree, b"u", UNKNOWN)?;
+    let rows: [(&[u8], ObjectId); 5] = [
+        (b"a", a),
+        (b"l", TOO_LARGE),
+        (b"m", m),
+        (b"o", UNREADABLE),
+        (b"u", UNKNOWN),
+    ];
+    let mut tree = Tree::empty(alloc);
+    for (name, id) in &rows {
+        push_entry(alloc, &mut tree, EntryKind::Tree, name, *id)?;
+    }
     Ok(tree)
 }
 

@@ -16,7 +16,11 @@ pub(crate) const FILE: ObjectId = ObjectId::Sha1([1; 20]);
 const NOT_CALLED: u8 = 9;
 
 /// Appends a name to a path.
-fn push_name(alloc: Global, path: &mut Vec<BString>, name: &[u8]) -> Result<(), AllocError> {
+pub(crate) fn push_name(
+    alloc: Global,
+    path: &mut Vec<BString>,
+    name: &[u8],
+) -> Result<(), AllocError> {
     path.push(BString::from_slice(alloc, name)?)?;
     Ok(())
 }
