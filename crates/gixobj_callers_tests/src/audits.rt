@@ -1,6 +1,6 @@
 //! Changes of a run, as `git diff-tree -r` prints them, and an entry after an import, as `git rev-parse` does.
 
-use crate::listing::{CHANGED, CHANGES, EMPTY, FIRST, IN, SECOND, store, write_changes};
+use crate::listing::{CHANGED, CHANGES, EMPTY, FIRST, IN, SECOND, appends_changes, store};
 use gix_object::hash::Kind;
 use gix_object::import::Imported;
 use gix_object::tree::Entry;
@@ -48,7 +48,7 @@ fn is_second(alloc: Global, it: &RunChanges<encode::Error>) -> bool {
     let mut out = Vec::new(alloc);
     it.written.id == id(SECOND)
         && rejects_second(&it.replies)
-        && write_changes(&mut out, &it.changes).is_ok()
+        && appends_changes(&mut out, &it.changes)
         && out.as_slice() == CHANGES
 }
 

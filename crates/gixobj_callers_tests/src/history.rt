@@ -139,26 +139,48 @@ fn is_logged(commit: &LoggedCommit, hex: &[u8], title: &[u8]) -> bool {
         && commit.email.as_bytes() == b"a@b".as_slice()
 }
 
-/// Names the end of a log of the second commit, over a store without these objects, with at most `max_commits`.
-fn logged(alloc: Global, without: &[u8], max_commits: u32) -> &'static str {
-    let kept = objects().map(|it| if it.0 == id(without) {
-        (id(ROOT), it.1)
-    } else {
-        it
-    });
-    let store = Shelf { objects: &kept };
-    let Ok(CommitLog { commits, end }) = log(alloc, &store, id(SECOND), max_commits) else {
-        return "no log";
-    };
-    match (commits.as_slice(), end) {
-        ([second, first], LogEnd::Root)
-            if is_logged(second, SECOND, b"second") && is_logged(first, FIRST, b"first") => {
-            "both"
-        }
-        ([_], LogEnd::Unread { id: at, .. }) if at == id(FIRST) => "second, without first",
-        ([_], LogEnd::TooLong { id: at }) if at == id(FIRST) => "second, before first",
+/// Whether these are the second commit and the first.
+fn are_both(second: &LoggedCommit, first: &LoggedCommit) -> bool {
+    is_logged(second, SECOND, b"second") && is_logged(first, FIRST, b"first")
+}
+
+/// Names the end of a log of commits.
+fn end_name(log: &CommitLog) -> &'static str {
+    match (log.commits.as_slice(), &log.end) {
+        ([second, first], LogEnd::Root) if are_both(second, first) => "both",
+        ([_], LogEnd::Unread { id: at, .. }) if *at == id(FIRST) => "second, without first",
+        ([_], LogEnd::TooLong { id: at }) if *at == id(FIRST) => "second, before first",
         ([], LogEnd::TooLong { .. }) => "none",
         _ => "otherwise",
+    }
+}
+
+/// The object with this id. With the id `ROOT` if it is the one that is left out.
+fn object_unless(
+    without: &[u8],
+    hex: &[u8],
+    kind: Kind,
+    bytes: &'static [u8],
+) -> (ObjectId, Data<'static>) {
+    if hex == without {
+        object(ROOT, kind, bytes)
+    } else {
+        object(hex, kind, bytes)
+    }
+}
+
+/// Names the end of a log of the second commit, over a store without these objects, with at most `max_commits`.
+fn logged(alloc: Global, without: &[u8], max_commits: u32) -> &'static str {
+    let kept = [
+        object_unless(without, SECOND, Kind::Commit, SECOND_BYTES),
+        object_unless(without, BAK, Kind::Tree, BAK_BYTES),
+        object_unless(without, FIRST, Kind::Commit, FIRST_BYTES),
+        object_unless(without, ROOT, Kind::Tree, ROOT_BYTES),
+    ];
+    let store = Shelf { objects: &kept };
+    match log(alloc, &store, id(SECOND), max_commits) {
+        Ok(log) => end_name(&log),
+        Err(_) => "no log",
     }
 }
 
@@ -180,20 +202,23 @@ fn merged() -> [(ObjectId, Data<'static>); 3] {
     ]
 }
 
-/// Whether the log of the merge has the ids, titles and authors that `git log --first-parent` prints.
+/// Whether a log has the ids, titles and authors of the merge and its ancestors, and ends at the root.
+fn is_of_merge(log: &CommitLog) -> bool {
+    match (log.commits.as_slice(), &log.end) {
+        ([merge, second, first], LogEnd::Root) => {
+            is_logged(merge, MERGE, b"Merge the side") && are_both(second, first)
+        }
+        _ => false,
+    }
+}
+
+/// Whether the log of the merge is the one that `git log --first-parent` prints.
 fn is_log_of_merge(alloc: Global) -> bool {
     let objects = merged();
     let store = Shelf { objects: &objects };
-    let Ok(CommitLog { commits, end }) = log(alloc, &store, id(MERGE), 9) else {
-        return false;
-    };
-    match (commits.as_slice(), end) {
-        ([merge, second, first], LogEnd::Root) => {
-            is_logged(merge, MERGE, b"Merge the side")
-                && is_logged(second, SECOND, b"second")
-                && is_logged(first, FIRST, b"first")
-        }
-        _ => false,
+    match log(alloc, &store, id(MERGE), 9) {
+        Ok(log) => is_of_merge(&log),
+        Err(_) => false,
     }
 }
 

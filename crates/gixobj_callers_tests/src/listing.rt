@@ -2,13 +2,11 @@
 
 use gix_object::hash::{Kind as HashKind, ObjectId};
 use gix_object::tree::EntryKind;
-use gix_object::{Memory, Tree, write};
+use gix_object::{Memory, Tree};
 use gix_object_tests::samples::{id, path_of, tree_of};
 use gixobj_listings::differences::{Change, changes};
 use gixobj_listings::listing::{File, ListError, UnreadError, files_of};
 use std::alloc::Global;
-use std::io;
-use std::io::Write;
 
 const HELLO: &[u8] = b"ce013625030ba8dba906f756967f9e9ca394464a";
 
@@ -79,25 +77,9 @@ fn one_file(alloc: Global, name: &[u8], file: &[u8]) -> Tree {
     tree_of(alloc, &[(EntryKind::Blob, name, id(file))])
 }
 
-/// Writes the first tree and its directories.
-fn write_first(alloc: Global, store: &mut Memory) -> Result<ObjectId, write::Error> {
-    store.write(HashKind::Sha1, &one_file(alloc, b"x", X))?;
-    store.write(
-        HashKind::Sha1,
-        &docs_tree(alloc, DEEP, EntryKind::BlobExecutable),
-    )?;
-    store.write(HashKind::Sha1, &first_tree(alloc, DOCS))
-}
-
-/// Writes the second tree and its directories.
-fn write_second(alloc: Global, store: &mut Memory) -> Result<ObjectId, write::Error> {
-    store.write(HashKind::Sha1, &one_file(alloc, b"x", CHANGED))?;
-    store.write(HashKind::Sha1, &one_file(alloc, b"in", IN))?;
-    store.write(
-        HashKind::Sha1,
-        &docs_tree(alloc, SECOND_DEEP, EntryKind::Blob),
-    )?;
-    let root = tree_of(
+/// The second tree.
+fn second_tree(alloc: Global) -> Tree {
+    tree_of(
         alloc,
         &[
             (EntryKind::Tree, b"a.txt", id(A_TXT)),
@@ -105,37 +87,77 @@ fn write_second(alloc: Global, store: &mut Memory) -> Result<ObjectId, write::Er
             (EntryKind::Tree, b"docs", id(SECOND_DOCS)),
             (EntryKind::Link, b"link", id(LINK)),
         ],
-    );
-    store.write(HashKind::Sha1, &root)
+    )
+}
+
+/// Whether a tree is written with this id.
+fn is_written(store: &mut Memory, tree: &Tree, hex: &[u8]) -> bool {
+    store.write(HashKind::Sha1, tree).ok() == Some(id(hex))
+}
+
+/// Whether the first tree and its directories are written with git's ids.
+fn writes_first(alloc: Global, store: &mut Memory) -> bool {
+    is_written(store, &one_file(alloc, b"x", X), DEEP)
+        && is_written(
+            store,
+            &docs_tree(alloc, DEEP, EntryKind::BlobExecutable),
+            DOCS,
+        )
+        && is_written(store, &first_tree(alloc, DOCS), FIRST)
+}
+
+/// Whether the second tree and its directories are written with git's ids.
+fn writes_second(alloc: Global, store: &mut Memory) -> bool {
+    is_written(store, &one_file(alloc, b"x", CHANGED), SECOND_DEEP)
+        && is_written(store, &one_file(alloc, b"in", IN), A_TXT)
+        && is_written(
+            store,
+            &docs_tree(alloc, SECOND_DEEP, EntryKind::Blob),
+            SECOND_DOCS,
+        )
+        && is_written(store, &second_tree(alloc), SECOND)
 }
 
 /// A store of both trees; whether they have git's ids.
 pub(crate) fn store(alloc: Global) -> (Memory, bool) {
     let mut store = Memory::new(alloc);
-    let first = write_first(alloc, &mut store).ok() == Some(id(FIRST));
-    let second = write_second(alloc, &mut store).ok() == Some(id(SECOND));
+    let first = writes_first(alloc, &mut store);
+    let second = writes_second(alloc, &mut store);
     (store, first && second)
 }
 
-/// Writes the names of a path with slashes between them, and a newline.
-fn write_path(out: &mut Vec<u8>, path: &[bstr::BString]) -> io::Result<()> {
-    for (index, name) in path.iter().enumerate() {
-        out.write_all(if index == 0 { b" " } else { b"/" })?;
-        out.write_all(name.as_bytes())?;
-    }
-    out.write_all(b"\n")
+/// Whether bytes are appended to a text.
+fn appends(out: &mut Vec<u8>, bytes: &[u8]) -> bool {
+    out.extend_from_slice(bytes).is_ok()
 }
 
-/// Writes a line for each file.
-fn write_files(out: &mut Vec<u8>, files: &[File]) -> io::Result<()> {
-    for file in files {
-        let mut digits = [0; 6];
-        out.write_all(file.mode.as_bytes(&mut digits).as_bytes())?;
-        out.write_all(b" ")?;
-        file.id.write_hex_to(out)?;
-        write_path(out, &file.path)?;
+/// Whether the names of a path are appended with slashes between them, and a newline.
+fn appends_path(out: &mut Vec<u8>, path: &[bstr::BString]) -> bool {
+    let mut is_done = true;
+    let mut before: &[u8] = b" ";
+    for name in path {
+        is_done = is_done && appends(out, before) && appends(out, name.as_bytes());
+        before = b"/";
     }
-    Ok(())
+    is_done && appends(out, b"\n")
+}
+
+/// Whether a line is appended for a file.
+fn appends_file(out: &mut Vec<u8>, file: &File) -> bool {
+    let mut digits = [0; 6];
+    appends(out, file.mode.as_bytes(&mut digits).as_bytes())
+        && appends(out, b" ")
+        && file.id.write_hex_to(out).is_ok()
+        && appends_path(out, &file.path)
+}
+
+/// Whether a line is appended for each file.
+fn appends_files(out: &mut Vec<u8>, files: &[File]) -> bool {
+    let mut is_done = true;
+    for file in files {
+        is_done = is_done && appends_file(out, file);
+    }
+    is_done
 }
 
 /// The letter of a change.
@@ -147,20 +169,20 @@ fn letter(change: &Change) -> &'static [u8] {
     }
 }
 
-/// Writes a line for each change.
-pub(crate) fn write_changes(out: &mut Vec<u8>, changes: &[Change]) -> io::Result<()> {
+/// Whether a line is appended for each change.
+pub(crate) fn appends_changes(out: &mut Vec<u8>, changes: &[Change]) -> bool {
+    let mut is_done = true;
     for change in changes {
-        out.write_all(letter(change))?;
-        write_path(out, &change.path)?;
+        is_done = is_done && appends(out, letter(change)) && appends_path(out, &change.path);
     }
-    Ok(())
+    is_done
 }
 
 /// Whether the files of the first tree are listed as git lists them.
 fn is_listed(alloc: Global, store: &Memory) -> bool {
     let mut out = Vec::new(alloc);
     match files_of(alloc, store, id(FIRST), 3) {
-        Ok(files) => write_files(&mut out, &files).is_ok() && out.as_slice() == LISTING,
+        Ok(files) => appends_files(&mut out, &files) && out.as_slice() == LISTING,
         Err(_) => false,
     }
 }
@@ -169,7 +191,7 @@ fn is_listed(alloc: Global, store: &Memory) -> bool {
 fn are_changes(alloc: Global, store: &Memory, from: ObjectId, to: ObjectId, lines: &[u8]) -> bool {
     let mut out = Vec::new(alloc);
     match changes(alloc, store, from, to, 3) {
-        Ok(found) => write_changes(&mut out, &found).is_ok() && out.as_slice() == lines,
+        Ok(found) => appends_changes(&mut out, &found) && out.as_slice() == lines,
         Err(_) => false,
     }
 }

@@ -100,13 +100,23 @@ fn runner(
     }
 }
 
+/// A runner that signs, and expects these bytes as input.
+fn signer(alloc: Global, input: &'static [u8]) -> ExpectingRunner {
+    runner(alloc, input, None, (SIGNATURE, b"[GNUPG:] SIG_CREATED x\n"))
+}
+
+/// Copies bytes. Empty if memory runs out.
+fn copied(alloc: Global, bytes: &[u8]) -> Vec<u8> {
+    Vec::from_slice(alloc, bytes).unwrap_or(Vec::new(alloc))
+}
+
 /// The output of a program that succeeds.
 fn output_of(alloc: Global, output: (&[u8], &[u8])) -> Output {
     let (stdout, stderr) = output;
     Output {
         success: true,
-        stdout: Vec::from_slice(alloc, stdout).unwrap_or(Vec::new(alloc)),
-        stderr: Vec::from_slice(alloc, stderr).unwrap_or(Vec::new(alloc)),
+        stdout: copied(alloc, stdout),
+        stderr: copied(alloc, stderr),
         result: None,
     }
 }
@@ -156,12 +166,7 @@ fn signing_options(alloc: Global) -> sign::Options {
 
 /// Whether a commit has the encoding `signed` after a runner that expects `payload` has signed it.
 fn is_written(alloc: Global, commit: Commit, payload: &'static [u8], signed: &[u8]) -> bool {
-    let mut runner = runner(
-        alloc,
-        payload,
-        None,
-        (SIGNATURE, b"[GNUPG:] SIG_CREATED x\n"),
-    );
+    let mut runner = signer(alloc, payload);
     match signed_payload(alloc, commit, signing_options(alloc), &mut runner) {
         Ok(written) => written.as_slice() == signed,
         Err(_) => false,
@@ -201,17 +206,17 @@ fn is_commit_encoding(alloc: Global, commit: &Commit, wanted: &[u8]) -> bool {
     commit.write_to_vec(alloc, &mut content).is_ok() && content.as_slice() == wanted
 }
 
+/// The commit that the law of signed commits signs, with this payload. `None` if signing fails.
+fn signed_by_law(alloc: Global, commit: Commit, payload: &'static [u8]) -> Option<Commit> {
+    let mut runner = signer(alloc, payload);
+    signed_commit_has_payload(alloc, commit, signing_options(alloc), &mut runner).ok()
+}
+
 /// Whether a commit is `signed` after the law of signed commits has signed it, with this payload.
 fn is_signed_by_law(alloc: Global, commit: Commit, payload: &'static [u8], signed: &[u8]) -> bool {
-    let mut runner = runner(
-        alloc,
-        payload,
-        None,
-        (SIGNATURE, b"[GNUPG:] SIG_CREATED x\n"),
-    );
-    match signed_commit_has_payload(alloc, commit, signing_options(alloc), &mut runner) {
-        Ok(commit) => is_commit_encoding(alloc, &commit, signed),
-        Err(_) => false,
+    match signed_by_law(alloc, commit, payload) {
+        Some(commit) => is_commit_encoding(alloc, &commit, signed),
+        None => false,
     }
 }
 
@@ -231,26 +236,30 @@ fn search_name(alloc: Global, content: &[u8]) -> &'static str {
     }
 }
 
+/// Names the result of the search in the encoding of a commit.
+fn searched_in(alloc: Global, commit: &Commit) -> &'static str {
+    let mut encoding = Vec::new(alloc);
+    if commit.write_to_vec(alloc, &mut encoding).is_ok() {
+        search_name(alloc, encoding.as_slice())
+    } else {
+        "not encoded"
+    }
+}
+
+/// The decoded commit after the law of signed commits has signed it. `None` if one of both fails.
+fn decoded_and_signed(alloc: Global, content: &[u8], payload: &'static [u8]) -> Option<Commit> {
+    match commit_of(alloc, content) {
+        Some(commit) => signed_by_law(alloc, commit, payload),
+        None => None,
+    }
+}
+
 /// Names the result of the search in the encoding of a decoded commit, after the law of signed commits has
 /// signed it, with this payload.
 fn searched_after_signing(alloc: Global, content: &[u8], payload: &'static [u8]) -> &'static str {
-    let commit = match commit_of(alloc, content) {
-        Some(commit) => commit,
-        None => return "no commit",
-    };
-    let mut runner = runner(
-        alloc,
-        payload,
-        None,
-        (SIGNATURE, b"[GNUPG:] SIG_CREATED x\n"),
-    );
-    let mut encoding = Vec::new(alloc);
-    match signed_commit_has_payload(alloc, commit, signing_options(alloc), &mut runner) {
-        Ok(signed) => match signed.write_to_vec(alloc, &mut encoding) {
-            Ok(()) => search_name(alloc, encoding.as_slice()),
-            Err(_) => "not encoded",
-        },
-        Err(_) => "not signed",
+    match decoded_and_signed(alloc, content, payload) {
+        Some(signed) => searched_in(alloc, &signed),
+        None => "not signed",
     }
 }
 
@@ -270,12 +279,7 @@ fn is_tag_encoding(alloc: Global, tag: &Tag, wanted: &[u8]) -> bool {
 
 /// Whether a tag is `signed` after the law of signed tags has signed it, with this payload.
 fn is_tag_signed_by_law(alloc: Global, tag: Tag, payload: &'static [u8], signed: &[u8]) -> bool {
-    let mut runner = runner(
-        alloc,
-        payload,
-        None,
-        (SIGNATURE, b"[GNUPG:] SIG_CREATED x\n"),
-    );
+    let mut runner = signer(alloc, payload);
     match signed_tag_has_payload(alloc, tag, signing_options(alloc), &mut runner) {
         Ok(tag) => is_tag_encoding(alloc, &tag, signed),
         Err(_) => false,
