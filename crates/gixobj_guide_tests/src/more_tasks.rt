@@ -2,14 +2,14 @@
 
 use crate::tasks::{
     BLOB, FIRST, FIRST_BYTES, SECOND, SECOND_BYTES, TREE, TREE_BYTES, batches, depths, differences,
-    histories, ids, memories, names, one_error, values, writes,
+    histories, ids, memories, names, one_error, stored_commits, values, writes,
 };
 use bstr::BString;
 use gix_object::find::existing_object::Error;
 use gix_object::hash::{Kind as HashKind, ObjectId};
 use gix_object::tree::editor::Editor;
 use gix_object::tree::{EntryKind, EntryMode};
-use gix_object::{Header, Keep, Kind, Memory, OutOfMemory, Tree};
+use gix_object::{Header, Keep, Kind, Memory, Tree};
 use gix_object_tests::samples::{id, path_of, string_of, tree_of};
 use std::alloc::Global;
 
@@ -93,15 +93,6 @@ fn finds_last_names_of_paths(rt: HostRuntime) {
     assert!(rt; has_file_name(alloc, b"", None));
 }
 
-/// A store of both commits and of the tree of the second.
-fn store(alloc: Global) -> Result<Memory, OutOfMemory> {
-    let mut store = Memory::new(alloc);
-    store.insert(Kind::Tree, HashKind::Sha1, TREE_BYTES)?;
-    store.insert(Kind::Commit, HashKind::Sha1, FIRST_BYTES)?;
-    store.insert(Kind::Commit, HashKind::Sha1, SECOND_BYTES)?;
-    Ok(store)
-}
-
 /// Id that `git mktree` prints for `a.txt`, `docs` with `c.txt`, and `run.sh`.
 const WITH_FILE: &[u8] = b"a759b0b839da5bd7e992c70eeac3d50514b37a45";
 
@@ -141,7 +132,7 @@ fn verifies_content(rt: HostRuntime) {
 #[test]
 fn converts_errors_of_tool(rt: HostRuntime) {
     let alloc = rt.alloc();
-    let store = store(alloc).unwrap_or(Memory::new(alloc));
+    let store = stored_commits(alloc);
     assert!(rt; is_extended(alloc, &store));
     assert!(rt; needs_commit(alloc, &store));
     assert!(rt; needs_name(alloc, &store));
@@ -163,7 +154,7 @@ fn exceeds(alloc: Global, store: &Memory, max_commits: u32) -> bool {
 #[test]
 fn lists_history_up_to_bound(rt: HostRuntime) {
     let alloc = rt.alloc();
-    let store = store(alloc).unwrap_or(Memory::new(alloc));
+    let store = stored_commits(alloc);
     assert!(rt; lists(alloc, &store, 2, &[id(SECOND), id(FIRST)]));
     assert!(rt; exceeds(alloc, &store, 1));
 }
@@ -219,7 +210,7 @@ fn inserts_objects_on_demand(rt: HostRuntime) {
 }
 
 /// Id that `git mktree` prints for the directory `docs` of the tree, and a file `z.txt`.
-const NESTED: &[u8] = b"805d1ea513536df94ee76b5baab4a68c5a2de7da";
+pub const NESTED: &[u8] = b"805d1ea513536df94ee76b5baab4a68c5a2de7da";
 
 /// A store in which a tree has itself as an entry.
 fn endless(alloc: Global) -> Memory {
@@ -229,9 +220,9 @@ fn endless(alloc: Global) -> Memory {
     store
 }
 
-/// A store of the tree, and of a tree in which it is the directory `docs`.
-fn nested(alloc: Global) -> Memory {
-    let mut store = store(alloc).unwrap_or(Memory::new(alloc));
+/// A store of both commits, of the tree, and of a tree in which it is the directory `docs`.
+pub fn nested(alloc: Global) -> Memory {
+    let mut store = stored_commits(alloc);
     let docs = (EntryKind::Tree, b"docs".as_slice(), id(TREE));
     let file = (EntryKind::Blob, b"z.txt".as_slice(), id(BLOB));
     let _ = store.keep(id(NESTED), &tree_of(alloc, &[docs, file]));

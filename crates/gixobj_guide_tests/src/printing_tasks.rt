@@ -1,13 +1,13 @@
 //! Calls the examples of docs/GUIDE.md once that print, and the one that edits a commit.
 
+use crate::more_tasks::{NESTED, nested};
 use crate::tasks::{
-    BLOB, FIRST_BYTES, SECOND, SECOND_BYTES, TREE, TREE_BYTES, commit_edits, prints, programs,
-    records, values,
+    BLOB, SECOND, TREE, commit_edits, prints, programs, records, stored_commits, values,
 };
-use gix_object::hash::{Kind as HashKind, ObjectId};
-use gix_object::tree::EntryKind;
-use gix_object::{Error, Exists, Keep, Kind, Memory, OutOfMemory};
-use gix_object_tests::samples::{id, string_of, tree_of};
+use bstr::BString;
+use gix_object::hash::ObjectId;
+use gix_object::{Error, Exists, Memory};
+use gix_object_tests::samples::{id, string_of};
 use std::alloc::Global;
 
 /// What `git cat-file --batch` prints for both commits.
@@ -58,15 +58,19 @@ fn prints_log_of_batch(rt: HostRuntime) {
     );
 }
 
+/// Whether these are two titles.
+fn are_titles(titles: &[BString], one: &[u8], two: &[u8]) -> bool {
+    match titles {
+        [first, second] => first.as_bytes() == one && second.as_bytes() == two,
+        _ => false,
+    }
+}
+
 /// Whether these bytes have the titles of the second commit and of its first parent.
 fn has_titles(alloc: Global, batch: &[u8]) -> bool {
-    let Ok(titles) = records::titles(alloc, batch, id(SECOND)) else {
-        return false;
-    };
-    match titles.as_slice() {
-        [second, first] => second.as_bytes() == b"second".as_slice()
-            && first.as_bytes() == b"first".as_slice(),
-        _ => false,
+    match records::titles(alloc, batch, id(SECOND)) {
+        Ok(titles) => are_titles(&titles, b"second", b"first"),
+        Err(_) => false,
     }
 }
 
@@ -76,9 +80,6 @@ fn lists_titles_of_records(rt: HostRuntime) {
     assert!(rt; records::titles(rt.alloc(), MISSING, id(SECOND)).is_err());
 }
 
-/// Id that `git mktree` prints for the directory `docs` of the tree, and a file `z.txt`.
-const NESTED: &[u8] = b"805d1ea513536df94ee76b5baab4a68c5a2de7da";
-
 /// What `git ls-tree -r` prints for the nested tree.
 const FILES: &[u8] = b"100644 blob ce013625030ba8dba906f756967f9e9ca394464a\tdocs/a.txt\n\
     100755 blob e69de29bb2d1d6434b8b29ae775ad8c2e48c5391\tdocs/run.sh\n\
@@ -86,24 +87,6 @@ const FILES: &[u8] = b"100644 blob ce013625030ba8dba906f756967f9e9ca394464a\tdoc
 
 /// What `git diff-tree -r --name-status` prints for the tree and the nested one.
 const CHANGES: &[u8] = b"D\ta.txt\nA\tdocs/a.txt\nA\tdocs/run.sh\nD\trun.sh\nA\tz.txt\n";
-
-/// A store of the tree and of both commits.
-fn store(alloc: Global) -> Result<Memory, OutOfMemory> {
-    let mut store = Memory::new(alloc);
-    store.insert(Kind::Tree, HashKind::Sha1, TREE_BYTES)?;
-    store.insert(Kind::Commit, HashKind::Sha1, FIRST_BYTES)?;
-    store.insert(Kind::Commit, HashKind::Sha1, SECOND_BYTES)?;
-    Ok(store)
-}
-
-/// The store with a tree in which the tree is the directory `docs`.
-fn nested(alloc: Global) -> Memory {
-    let mut store = store(alloc).unwrap_or(Memory::new(alloc));
-    let docs = (EntryKind::Tree, b"docs".as_slice(), id(TREE));
-    let file = (EntryKind::Blob, b"z.txt".as_slice(), id(BLOB));
-    let _ = store.keep(id(NESTED), &tree_of(alloc, &[docs, file]));
-    store
-}
 
 /// Whether the files of the nested tree are printed.
 fn are_files_printed(alloc: Global, store: &Memory) -> bool {
@@ -150,7 +133,7 @@ const DOCS: &[u8] = b"2bcada35da78a7011b5497fcf851bb11e2353a39";
 #[test]
 fn commits_edited_tree(rt: HostRuntime) {
     let alloc = rt.alloc();
-    let mut store = store(alloc).unwrap_or(Memory::new(alloc));
+    let mut store = stored_commits(alloc);
     let third = committed(alloc, &mut store).ok();
     assert!(rt; third == Some(id(THIRD)));
     assert!(rt; store.exists(id(THIRD).as_oid()) && store.exists(id(DOCS).as_oid()));

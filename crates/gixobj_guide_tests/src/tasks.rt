@@ -41,7 +41,7 @@ use bstr::BStr;
 use gix_object::hash::{Kind as HashKind, ObjectId};
 use gix_object::signature::Output;
 use gix_object::tree::editor::{Editor, Error};
-use gix_object::{Commit, CommitRef, Data, Exists, Find, Kind, Memory, OutOfMemory, Tree, decode};
+use gix_object::{Commit, CommitRef, Data, Exists, Kind, Memory, OutOfMemory, Tree, decode};
 use gix_object_tests::samples::{Row, edits_of, id, path_of, step_by, string_of};
 use std::alloc::Global;
 
@@ -238,6 +238,18 @@ fn store(alloc: Global) -> Result<Memory, OutOfMemory> {
     Ok(store)
 }
 
+/// The same store. Empty if memory runs out.
+fn stored(alloc: Global) -> Memory {
+    store(alloc).unwrap_or(Memory::new(alloc))
+}
+
+/// A store of both commits and of the tree. It lacks objects if memory runs out.
+pub fn stored_commits(alloc: Global) -> Memory {
+    let mut store = stored(alloc);
+    let _ = store.insert(Kind::Commit, HashKind::Sha1, SECOND_BYTES);
+    store
+}
+
 /// Id that `git hash-object -t commit` prints for the second commit.
 pub const SECOND: &[u8] = b"df0d5713d06ef4f4e7699d6813312b896de0436b";
 
@@ -264,7 +276,7 @@ fn has_script(alloc: Global, store: &stores::Overlay<'_, Memory>) -> bool {
 fn finds_objects_in_own_store(rt: HostRuntime) {
     let alloc = rt.alloc();
     let store = stores::Overlay {
-        store: store(alloc).unwrap_or(Memory::new(alloc)),
+        store: stored(alloc),
         id: id(SECOND),
         object: Data::new(SECOND_BYTES, Kind::Commit, HashKind::Sha1),
     };
@@ -274,21 +286,21 @@ fn finds_objects_in_own_store(rt: HostRuntime) {
 }
 
 /// Whether the editor moves a file.
-fn renames<S: Find>(alloc: Global, editor: &mut Editor<S>, from: &[&str], to: &[&str]) -> bool {
+fn renames(alloc: Global, editor: &mut Editor<&Memory>, from: &[&str], to: &[&str]) -> bool {
     let from = path_of(alloc, from);
     let to = path_of(alloc, to);
     edits::rename(editor, &from, &to, id(BLOB)).is_ok()
 }
 
 /// Whether the editor inserts a file into a directory.
-fn fills<S: Find>(alloc: Global, editor: &mut Editor<S>, names: &[&str], name: &[&str]) -> bool {
+fn fills(alloc: Global, editor: &mut Editor<&Memory>, names: &[&str], name: &[&str]) -> bool {
     let directory = path_of(alloc, names);
     let file = (path_of(alloc, name), id(BLOB));
     edits::fill(editor, &directory, &[file]).is_ok()
 }
 
 /// Whether a write returns this root and emits `count` trees.
-fn writes_root<S>(alloc: Global, editor: &mut Editor<S>, root: &[u8], count: usize) -> bool {
+fn writes_root(alloc: Global, editor: &mut Editor<&Memory>, root: &[u8], count: usize) -> bool {
     writes::write(alloc, editor).ok() == Some((id(root), count))
 }
 
@@ -296,7 +308,7 @@ fn writes_root<S>(alloc: Global, editor: &mut Editor<S>, root: &[u8], count: usi
 const EDITED: &[u8] = b"cb60b5d33be5a9a5d719af0c303354a83d95214a";
 
 /// Whether the editor moves a file, inserts one into a directory, and writes the tree.
-fn is_edited<S: Find>(alloc: Global, editor: &mut Editor<S>) -> bool {
+fn is_edited(alloc: Global, editor: &mut Editor<&Memory>) -> bool {
     renames(alloc, editor, &["a.txt"], &["b.txt"])
         && fills(alloc, editor, &["docs"], &["c.txt"])
         && writes_root(alloc, editor, EDITED, 2)
@@ -321,7 +333,7 @@ fn is_unknown_in(alloc: Global, store: &Memory) -> bool {
 #[test]
 fn edits_stored_tree(rt: HostRuntime) {
     let alloc = rt.alloc();
-    let store = store(alloc).unwrap_or(Memory::new(alloc));
+    let store = stored(alloc);
     assert!(rt; is_edited_in(alloc, &store));
     assert!(rt; is_unknown_in(alloc, &store));
 }
@@ -363,12 +375,17 @@ fn imports_step_as_commit(rt: HostRuntime) {
 
 const SIGNATURE: &[u8] = b"-----BEGIN PGP SIGNATURE-----\nA\n";
 
+/// Copies bytes. Empty if memory runs out.
+fn copied(alloc: Global, bytes: &[u8]) -> Vec<u8> {
+    Vec::from_slice(alloc, bytes).unwrap_or(Vec::new(alloc))
+}
+
 /// A runner whose program succeeds with this output.
 fn runner(alloc: Global, stdout: &[u8], stderr: &[u8]) -> runners::Same {
     let answer = Output {
         success: true,
-        stdout: Vec::from_slice(alloc, stdout).unwrap_or(Vec::new(alloc)),
-        stderr: Vec::from_slice(alloc, stderr).unwrap_or(Vec::new(alloc)),
+        stdout: copied(alloc, stdout),
+        stderr: copied(alloc, stderr),
         result: None,
     };
     runners::Same { answer }
