@@ -13,6 +13,13 @@ each-preserved c = (
   omega (arith, c.each.invariant.1),
 )
 
+pub each-preserved-else-remaining-eq0 : goal.each-preserved-else-remaining-eq0
+each-preserved-else-remaining-eq0 c = (
+  has_consumed_next _ (c.args.index - c.each.remaining) _ c.each.trailers _ _ _ c.each.invariant.0 c.in-Some-Ok.ensures.steps
+      c.in-Some-Ok.field-0-is (omega (arith, c.each.invariant.1, c.if-remaining-eq0.false)),
+  omega (arith, c.each.invariant.1),
+)
+
 pub returns-then-remaining-eq0-clause-found : goal.returns-then-remaining-eq0-clause-found
 returns-then-remaining-eq0-clause-found c = trailer_of_next _ (c.args.index - c.each.remaining) c.args.index c.each.trailers _ _ _
     c.each.invariant.0 c.in-Some-Ok.ensures.steps c.in-Some-Ok.field-0-is (omega (arith, c.if-remaining-eq0.true))
