@@ -30,7 +30,7 @@ impl TreeRef<'_> {
         ensures owned { IfOk result (λ tree. tree ≡ tree_entries self.now) }
         ensures error { IfErr result (λ _. tree_entries self.now ≢ []) }
     {
-        let mut entries = Vec::new(alloc);
+        let mut entries = Vec::with_capacity(alloc, self.entries.len())?;
         for entry in &self.entries {
             entries.push(entry.into_owned(alloc)?)?;
         }
