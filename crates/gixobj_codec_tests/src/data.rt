@@ -12,55 +12,23 @@ use gixobj_codec::tag::ref_iter::Token as TagToken;
 use gixobj_codec::{Data, DataExt};
 use std::alloc::Global;
 
-/// Returns whether the first token of the commit is a tree; `None` if `kind` is not a commit's.
-fn yields_a_tree(alloc: Global, kind: Kind, hash_kind: hash::Kind) -> Option<bool> {
-    let mut tokens = Data::new(PLAIN, kind, hash_kind).try_into_commit_iter(alloc)?;
-    Some(matches!(&tokens.next(), Some(Ok(CommitToken::Tree { .. }))))
-}
-
-#[test]
-fn yields_tokens_of_commits_only(rt: HostRuntime) {
-    assert!(rt; yields_a_tree(rt.alloc(), Commit, Sha1) == Some(true));
-    assert!(rt; yields_a_tree(rt.alloc(), Commit, Sha256) == Some(false));
-    for kind in [Tree, Blob, Tag] {
-        assert!(rt; yields_a_tree(rt.alloc(), kind, Sha1).is_none(), "{kind}");
-    }
-}
-
-/// Returns whether the first token of an object is a target; `None` if the object is not a tag.
-fn yields_a_target(bytes: &[u8], kind: Kind, hash_kind: hash::Kind) -> Option<bool> {
-    let mut tokens = Data::new(bytes, kind, hash_kind).try_into_tag_iter()?;
-    Some(matches!(&tokens.next(), Some(Ok(TagToken::Target { .. }))))
-}
-
-/// Returns whether the first entry of an object is yielded; `None` if the object is not a tree.
-fn yields_an_entry(bytes: &[u8], kind: Kind, hash_kind: hash::Kind) -> Option<bool> {
-    let mut entries = Data::new(bytes, kind, hash_kind).try_into_tree_iter()?;
-    Some(matches!(&entries.next(), Some(Ok(_))))
-}
-
-/// Objects, and whether their first token is a target. The reader has the object's kind of ids.
-const TAGS: &[(&[u8], Kind, hash::Kind, Option<bool>)] = &[
-    (BARE, Tag, Sha1, Some(true)),
-    (BARE, Tree, Sha1, None),
-    (BARE, Blob, Sha1, None),
-    (BARE, Commit, Sha1, None),
-    (BARE_SHA256, Tag, Sha256, Some(true)),
-    (BARE_SHA256, Tag, Sha1, Some(false)),
-];
-
-#[test]
-fn yields_tokens_of_tags_only(rt: HostRuntime) {
-    for &(bytes, kind, hash_kind, wanted) in TAGS {
-        assert!(rt; yields_a_target(bytes, kind, hash_kind) == wanted, "{kind}");
-    }
-}
-
-#[test]
-fn yields_entries_of_trees_only(rt: HostRuntime) {
-    assert!(rt; yields_an_entry(ENTRY, Tree, Sha1) == Some(true));
-    for kind in [Blob, Commit, Tag] {
-        assert!(rt; yields_an_entry(ENTRY, kind, Sha1).is_none(), "{kind}");
+/// Returns whether the reader of objects of this kind yields the object's first item. That of a commit is its
+/// tree, that of a tag its target, and that of a tree an entry. `None` if there is no such reader.
+fn yields_first(alloc: Global, reader: Kind, data: Data<'_>) -> Option<bool> {
+    match reader {
+        Commit => {
+            let mut tokens = data.try_into_commit_iter(alloc)?;
+            Some(matches!(&tokens.next(), Some(Ok(CommitToken::Tree { .. }))))
+        }
+        Tag => {
+            let mut tokens = data.try_into_tag_iter()?;
+            Some(matches!(&tokens.next(), Some(Ok(TagToken::Target { .. }))))
+        }
+        Tree => {
+            let mut entries = data.try_into_tree_iter()?;
+            Some(matches!(&entries.next(), Some(Ok(_))))
+        }
+        Blob => None,
     }
 }
 
@@ -69,11 +37,37 @@ const LONGER_ENTRY: &[u8] = b"100644 a\0\
     \x01\x01\x01\x01\x01\x01\x01\x01\x01\x01\x01\x01\x01\x01\x01\x01\x01\x01\x01\x01\
     \x02\x02\x02\x02\x02\x02\x02\x02\x02\x02\x02\x02";
 
+/// Kinds of readers, objects, their kinds, the kinds of their ids, and whether the first item is yielded.
+const ROWS: &[(Kind, &[u8], Kind, hash::Kind, Option<bool>)] = &[
+    (Commit, PLAIN, Commit, Sha1, Some(true)),
+    (Commit, PLAIN, Commit, Sha256, Some(false)),
+    (Commit, PLAIN, Tree, Sha1, None),
+    (Commit, PLAIN, Blob, Sha1, None),
+    (Commit, PLAIN, Tag, Sha1, None),
+    (Tag, BARE, Tag, Sha1, Some(true)),
+    (Tag, BARE, Tree, Sha1, None),
+    (Tag, BARE, Blob, Sha1, None),
+    (Tag, BARE, Commit, Sha1, None),
+    (Tag, BARE_SHA256, Tag, Sha256, Some(true)),
+    (Tag, BARE_SHA256, Tag, Sha1, Some(false)),
+    (Tree, ENTRY, Tree, Sha1, Some(true)),
+    (Tree, ENTRY, Blob, Sha1, None),
+    (Tree, ENTRY, Commit, Sha1, None),
+    (Tree, ENTRY, Tag, Sha1, None),
+    (Tree, ENTRY, Tree, Sha256, Some(false)),
+    (Tree, LONGER_ENTRY, Tree, Sha256, Some(true)),
+];
+
 /// The reader has the kind of ids that the object has.
 #[test]
-fn yields_entries_with_ids_of_its_kind(rt: HostRuntime) {
-    assert!(rt; yields_an_entry(ENTRY, Tree, Sha256) == Some(false));
-    assert!(rt; yields_an_entry(LONGER_ENTRY, Tree, Sha256) == Some(true));
+fn yields_items_of_own_kinds_only(rt: HostRuntime) {
+    for &(reader, bytes, kind, hash_kind, wanted) in ROWS {
+        let data = Data::new(bytes, kind, hash_kind);
+        assert!(rt;
+            yields_first(rt.alloc(), reader, data) == wanted,
+            "{reader} {kind} {hash_kind:?}"
+        );
+    }
 }
 
 /// Data that are greater than `a` of a tree with SHA-1 ids.

@@ -1,6 +1,6 @@
 //! Helpers that the tests share: hashes, orders, copies, writers, and outcomes of allocation failures.
 
-use gixobj_base::{WriteTo, encode};
+use gixobj_base::WriteTo;
 use gixobj_base_tests::limited::Limited;
 use std::alloc::Global;
 use std::cmp::Ordering;
@@ -65,58 +65,38 @@ pub(crate) fn are_in_order<T: Ord + Hash>(values: &[T]) -> bool {
     true
 }
 
-/// Returns whether a clone equals the value and has its hash.
-pub(crate) fn is_copied<T: Clone + PartialEq + Hash + Drop>(value: &T) -> bool {
-    holds!(value.clone(), Ok(copy) => copy == *value && hash_of(&copy) == hash_of(value))
-}
-
 /// Returns whether a clone of each value equals it and has its hash.
 pub(crate) fn are_copied<T: Clone + PartialEq + Hash + Drop>(values: &[T]) -> bool {
     for value in values {
-        if !is_copied(value) {
+        if !holds!(value.clone(), Ok(copy) => copy == *value && hash_of(&copy) == hash_of(value)) {
             return false;
         }
     }
     true
 }
 
-/// Returns the bytes written of an object, borrowed or owned.
-pub(crate) fn written<T: WriteTo>(alloc: Global, object: &T) -> Result<Vec<u8>, encode::Error>
-    requires { T.can_write object.now }
-{
-    let mut out = Vec::new(alloc);
-    object.write_to(alloc, &mut out)?;
-    Ok(out)
-}
-
 /// Returns whether an object has this encoding, and the size of the encoding.
 pub(crate) fn is_written<T: WriteTo>(alloc: Global, object: &T, wanted: &[u8]) -> bool
     requires { T.can_write object.now }
 {
+    let mut out = Vec::new(alloc);
     object.size() == Some(wanted.len() as u64)
-        && holds!(written(alloc, object), Ok(out) => out.as_slice() == wanted)
-}
-
-/// Returns whether an object has this size, and as many bytes are written.
-pub(crate) fn has_size<T: WriteTo>(alloc: Global, object: &T, len: usize) -> bool
-    requires { T.can_write object.now }
-{
-    object.size() == Some(len as u64) && holds!(written(alloc, object), Ok(out) => out.len() == len)
+        && object.write_to(alloc, &mut out).is_ok()
+        && out.as_slice() == wanted
 }
 
 /// Returns whether a writer with room for `room` bytes fails after that prefix of the encoding.
 fn stops_at<T: WriteTo>(alloc: Global, object: &T, bytes: &[u8], room: usize) -> bool
     requires { T.can_write object.now }
 {
-    let Ok(held) = Vec::with_capacity(alloc, bytes.len()) else {
-        return false;
-    };
+    let held = Vec::new(alloc);
     let mut writer = Limited { held, room };
     let outcome = object.write_to(alloc, &mut writer);
     writer.stopped_at(&outcome, bytes, room)
 }
 
-/// Returns whether each writer with less room than the encoding fails after the prefix of that length.
+/// Returns whether an object has this encoding, and each writer with less room fails after the prefix of that
+/// length.
 pub(crate) fn stops<T: WriteTo>(alloc: Global, object: &T, bytes: &[u8]) -> bool
     requires { T.can_write object.now }
 {
@@ -125,7 +105,7 @@ pub(crate) fn stops<T: WriteTo>(alloc: Global, object: &T, bytes: &[u8]) -> bool
             return false;
         }
     }
-    true
+    is_written(alloc, object, bytes)
 }
 
 /// The outcome of a call in which an allocation may fail.

@@ -6,12 +6,7 @@ mod writers;
 
 use crate::helpers::holds;
 use gixobj_base::hash::Kind;
-use gixobj_base::{OutOfMemory, Tree};
 use gixobj_codec::TreeRef;
-use std::alloc::{AllocError, Global};
-
-/// The bytes of an id.
-const ONES: [u8; 20] = [1; 20];
 
 /// The encoding of a file's entry with the id of ones, of 29 bytes.
 pub(crate) const ENTRY: &[u8] = b"100644 a\0\
@@ -26,41 +21,15 @@ const EXAMPLE: &[u8] =
     160000 module\0\x65\x6d\x88\xde\x43\x3e\xc9\xf9\xc5\xd4\xed\x9b\x2c\x64\x38\x44\x12\x7a\x0f\xb4\
     100755 run.sh\0\x21\xba\x68\x25\x58\xa4\x22\x64\x51\x8f\x1e\x0b\xa5\x5e\x8a\x5c\xd9\xd7\xdb\x0a";
 
-/// Returns a tree's encoding. Each prefix is an entry's mode, space, name and zero byte; the id of ones
-/// follows.
-fn tree_bytes(alloc: Global, prefixes: &[&str]) -> Result<Vec<u8>, AllocError> {
-    let mut content = Vec::new(alloc);
-    for prefix in prefixes {
-        content.extend_from_slice(prefix.as_bytes())?;
-        content.extend_from_slice(&ONES)?;
-    }
-    Ok(content)
-}
-
-/// Returns whether an owned tree has no entries, and no allocation for any.
-fn holds_nothing(tree: &Result<Tree, OutOfMemory>) -> bool {
-    holds!(tree, Ok(it) => it.entries.is_empty() && it.entries.capacity() == 0)
-}
-
-/// Returns whether a tree has no entries, and no allocation for any.
-fn is_without_memory(tree: &TreeRef<'_>) -> bool {
-    tree.entries.is_empty() && tree.entries.capacity() == 0
-}
-
 /// The empty tree and its owned forms hold no allocation.
 #[test]
 fn empty_tree_allocates_nothing(rt: HostRuntime) {
-    assert!(rt; is_without_memory(&TreeRef::empty(rt.alloc())));
-    assert!(rt; holds_nothing(&TreeRef::empty(rt.alloc()).to_owned(rt.alloc())));
-    assert!(rt; holds_nothing(&TreeRef::empty(rt.alloc()).into_owned(rt.alloc())));
-}
-
-/// Returns whether a decoded tree has no entries, and no allocation for any.
-fn reads_nothing(alloc: Global, bytes: &[u8]) -> bool {
-    holds!(&TreeRef::from_bytes(alloc, bytes, Kind::Sha1), Ok(tree) => is_without_memory(tree))
-}
-
-#[test]
-fn decodes_no_bytes_without_allocation(rt: HostRuntime) {
-    assert!(rt; reads_nothing(rt.alloc(), b""));
+    let alloc = rt.alloc();
+    let owned_again = TreeRef::empty(alloc).to_owned(alloc);
+    let owned = TreeRef::empty(alloc).into_owned(alloc);
+    let decoded = TreeRef::from_bytes(alloc, b"", Kind::Sha1);
+    assert!(rt; TreeRef::empty(alloc).entries.capacity() == 0);
+    assert!(rt; holds!(&owned_again, Ok(it) => it.entries.capacity() == 0));
+    assert!(rt; holds!(&owned, Ok(it) => it.entries.capacity() == 0));
+    assert!(rt; holds!(&decoded, Ok(it) => it.entries.capacity() == 0));
 }

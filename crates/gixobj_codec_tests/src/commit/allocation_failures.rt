@@ -2,7 +2,7 @@
 //! again; a failed reader yields nothing more.
 
 use super::{PLAIN, SIGNED, owned_form};
-use crate::helpers::{Answer, completes, written};
+use crate::helpers::{Answer, completes};
 use gixobj_base::hash::Kind;
 use gixobj_base::{WriteTo, decode, encode};
 use gixobj_codec::{CommitRef, CommitRefIter};
@@ -24,21 +24,18 @@ fn of_error(error: &decode::Error) -> Answer {
     }
 }
 
-/// Classifies the bytes written of a commit.
-fn of_written(out: &Result<Vec<u8>, encode::Error>, bytes: &[u8]) -> Answer {
-    match out {
-        Ok(out) => Answer::complete_where(out.as_slice() == bytes),
-        Err(encode::Error::Writer(_)) => Answer::WithoutMemory,
-        Err(_) => Answer::Other,
-    }
-}
-
-/// Classifies writing a commit by its encoding and its size.
+/// Classifies writing a commit, by its encoding and its size.
 fn of_commit<T: WriteTo>(alloc: Global, commit: &T, bytes: &[u8]) -> Answer
     requires { T.can_write commit.now }
 {
-    let of_size = Answer::complete_where(commit.size() == Some(bytes.len() as u64));
-    of_written(&written(alloc, commit), bytes).and(of_size)
+    let mut out = Vec::new(alloc);
+    match &commit.write_to(alloc, &mut out) {
+        Ok(()) => Answer::complete_where(
+            out.as_slice() == bytes && commit.size() == Some(bytes.len() as u64),
+        ),
+        Err(encode::Error::Writer(_)) => Answer::WithoutMemory,
+        Err(_) => Answer::Other,
+    }
 }
 
 /// Classifies decoding a commit and writing it.
@@ -57,34 +54,30 @@ fn of_owned(alloc: Global, bytes: &[u8]) -> Answer {
     }
 }
 
-/// Classifies a reader's error, after which it yields nothing.
-fn of_failed_reader(mut tokens: CommitRefIter<'_>, error: &decode::Error) -> Answer {
-    of_error(error).and(Answer::complete_where(tokens.next().is_none()))
-}
-
-/// Classifies a run over the tokens of an encoding, by their count.
+/// Classifies a run over the tokens of an encoding, by their count. After an error it yields nothing.
 fn of_tokens(alloc: Global, bytes: &[u8], wanted: usize) -> Answer {
     let mut tokens = CommitRefIter::from_bytes(alloc, bytes, Kind::Sha1);
     let mut count = 0usize;
     while let Some(token) = tokens.next() {
         match token {
             Ok(_) => count = count.saturating_add(1),
-            Err(error) => return of_failed_reader(tokens, &error),
+            Err(error) => {
+                let is_last = Answer::complete_where(tokens.next().is_none());
+                return of_error(&error).and(is_last);
+            }
         }
     }
     Answer::complete_where(count == wanted)
 }
 
-/// Combines the outcomes of decoding, writing and iterating.
-fn of_bytes(alloc: Global, bytes: &[u8], tokens: usize) -> Answer {
-    of_read(alloc, bytes)
-        .and(of_owned(alloc, bytes))
-        .and(of_tokens(alloc, bytes, tokens))
-}
-
 #[test]
 fn decodes_and_writes_whatever_allocation_fails(rt: HostRuntime) {
     for &(bytes, tokens) in ENCODINGS {
-        assert!(rt; completes!(of_bytes(rt.alloc(), bytes, tokens)), "{tokens}");
+        assert!(rt; completes!(of_read(rt.alloc(), bytes)), "{tokens}");
+        assert!(rt; completes!(of_owned(rt.alloc(), bytes)), "{tokens}");
+        assert!(rt;
+            completes!(of_tokens(rt.alloc(), bytes, tokens)),
+            "{tokens}"
+        );
     }
 }
