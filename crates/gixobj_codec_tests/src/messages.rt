@@ -3,13 +3,14 @@
 mod allocation_failures;
 
 use crate::commit::read;
-use crate::helpers::{are_copied, are_in_order, holds};
+use crate::helpers::{are_in_order, are_ordered, holds};
 use bstr::BStr;
 use gixobj_codec::commit::message::BodyRef;
 use gixobj_codec::commit::message::body::TrailerRef;
 use gixobj_codec::commit::{CommitRef, MessageRef};
 use std::alloc::Global;
 use std::borrow::CowSlice;
+use std::cmp::Ordering;
 
 /// A commit with one sign-off, two co-authors, four assistants, three other attributions and a link.
 const ATTRIBUTED: &[u8] = b"tree 4b825dc642cb6eb9a060e54bf8d69288fbee4904\n\
@@ -110,8 +111,9 @@ fn parts_compare_and_hash_by_bytes(rt: HostRuntime) {
         MessageRef::from_bytes(b"a\n\nc"),
     ];
     let bodies = [BodyRef::from_bytes(b"a\n\nB: 1"), BodyRef::from_bytes(b"b")];
-    let trailers = [named(b"a"), named(b"b")];
+    let (trailer, later) = (named(b"a"), named(b"b"));
     assert!(rt; are_in_order(&messages));
     assert!(rt; are_in_order(&bodies));
-    assert!(rt; are_in_order(&trailers) && are_copied(&trailers));
+    assert!(rt; are_ordered(&trailer, &later, Ordering::Less));
+    assert!(rt; holds!(trailer.clone(), Ok(copy) => are_ordered(&copy, &trailer, Ordering::Equal)));
 }
