@@ -1,22 +1,12 @@
 //! Actors from their fields: illegal names, copies, order, and failing writers.
 
+use crate::helpers::holds;
 use crate::limited::Limited;
 use bstr::BStr;
-use gixobj_base::actor::{Signature, SignatureRef};
+use gixobj_base::actor::SignatureRef;
 use gixobj_base::date::TimeBuf;
 use gixobj_base::encode::Error;
 use std::alloc::Global;
-
-/// Returns whether both forms of an actor fail with `IllegalActor` and write nothing.
-fn is_illegal(alloc: Global, actor: &SignatureRef<'_>) -> bool {
-    let Ok(owned) = actor.to_owned(alloc) else {
-        return false;
-    };
-    let mut out = Vec::new(alloc);
-    matches!(owned.write_to(&mut out), Err(Error::IllegalActor))
-        && matches!(actor.write_to(&mut out), Err(Error::IllegalActor))
-        && out.is_empty()
-}
 
 #[test]
 fn rejects_newline_in_name(rt: HostRuntime) {
@@ -25,15 +15,13 @@ fn rejects_newline_in_name(rt: HostRuntime) {
         email: BStr::new(b"a@b"),
         time: BStr::new(b"0 +0000"),
     };
-    assert!(rt; is_illegal(rt.alloc(), &actor));
-}
-
-/// Returns whether a clone of an actor equals it.
-fn is_copied(actor: &Signature) -> bool {
-    match actor.clone() {
-        Ok(copy) => copy == *actor,
-        Err(_) => false,
-    }
+    let mut out = Vec::new(rt.alloc());
+    assert!(rt; matches!(&actor.write_to(&mut out), Err(Error::IllegalActor)));
+    let owned = actor.to_owned(rt.alloc());
+    assert!(rt;
+        holds!(&owned, Ok(it) => matches!(&it.write_to(&mut out), Err(Error::IllegalActor)))
+    );
+    assert!(rt; out.is_empty());
 }
 
 /// Returns whether `to_owned`, `to_ref` and `clone` leave an actor unchanged.
@@ -42,7 +30,7 @@ fn is_kept(alloc: Global, actor: &SignatureRef<'_>) -> bool {
         return false;
     };
     let mut buf = TimeBuf::new();
-    owned.to_ref(&mut buf) == *actor && is_copied(&owned)
+    owned.to_ref(&mut buf) == *actor && holds!(owned.clone(), Ok(copy) => copy == owned)
 }
 
 #[test]
@@ -60,21 +48,6 @@ fn owned_copies_keep_fields(rt: HostRuntime) {
     assert!(rt; actor < later);
 }
 
-/// Returns a writer with room for `room` bytes.
-fn writer(alloc: Global, room: usize) -> Limited {
-    Limited {
-        held: Vec::new(alloc),
-        room,
-    }
-}
-
-/// Returns whether a writer with room for `room` bytes fails after that prefix of an actor's line.
-fn stops_at(alloc: Global, actor: &SignatureRef<'_>, line: &[u8], room: usize) -> bool {
-    let mut writer = writer(alloc, room);
-    let outcome = actor.write_to(&mut writer);
-    writer.stopped_at(&outcome, line, room)
-}
-
 #[test]
 fn returns_writer_error_after_each_prefix(rt: HostRuntime) {
     let line: &[u8] = b"A <a@b> 1 +0530";
@@ -83,8 +56,11 @@ fn returns_writer_error_after_each_prefix(rt: HostRuntime) {
         email: BStr::new(b"a@b"),
         time: BStr::new(b"1 +0530"),
     };
-    for room in 0..line.len() {
-        assert!(rt; stops_at(rt.alloc(), &actor, line, room), "{room}");
+    for room in 0..=line.len() {
+        let held = Vec::new(rt.alloc());
+        let mut writer = Limited { held, room };
+        let outcome = actor.write_to(&mut writer);
+        let stopped = writer.stopped_at(&outcome, line, room);
+        assert!(rt; stopped == (room < line.len()), "{room}");
     }
-    assert!(rt; actor.write_to(&mut writer(rt.alloc(), line.len())).is_ok());
 }

@@ -1,41 +1,23 @@
-//! Blobs: borrowed and owned forms, order, and writing.
+//! Blobs: borrowed and owned forms, order, and a failing writer.
 
-use crate::helpers::owned_blob;
+use crate::helpers::{are_ordered, owned_blob};
 use crate::limited::Limited;
-use gixobj_base::{Blob, BlobRef, Kind, WriteTo};
+use gixobj_base::{BlobRef, WriteTo};
+use std::cmp::Ordering;
 
+/// Blobs compare by their bytes.
 #[test]
 fn converts_between_borrowed_and_owned(rt: HostRuntime) {
     let borrowed = BlobRef::from_bytes(b"hello");
     assert!(rt; borrowed.bytes == b"hello".as_slice());
     let mut owned = owned_blob(rt.alloc(), borrowed);
+    let copy = owned_blob(rt.alloc(), owned.to_ref());
     assert!(rt; owned.to_ref() == borrowed);
+    assert!(rt; are_ordered(&copy, &owned, Ordering::Equal));
     assert!(rt; owned.bytes.extend_from_slice(b" world").is_ok());
     assert!(rt; owned.to_ref().bytes == b"hello world".as_slice());
-}
-
-#[test]
-fn blobs_compare_by_bytes(rt: HostRuntime) {
-    let owned = owned_blob(rt.alloc(), BlobRef::from_bytes(b"hello world"));
-    assert!(rt; BlobRef::from_bytes(b"hello") < owned.to_ref());
-    let copy = owned_blob(rt.alloc(), owned.to_ref());
-    assert!(rt; copy == owned);
-    assert!(rt; copy.cmp(&owned).is_eq());
-    let empty = Blob {
-        bytes: Vec::new(rt.alloc()),
-    };
-    assert!(rt; empty < copy);
-}
-
-#[test]
-fn writes_owned_blob(rt: HostRuntime) {
-    let alloc = rt.alloc();
-    let owned = owned_blob(alloc, BlobRef::from_bytes(b"hello"));
-    assert!(rt; owned.kind() == Kind::Blob);
-    assert!(rt; owned.size() == Some(5));
-    let mut out = Vec::new(alloc);
-    assert!(rt; owned.write_to(alloc, &mut out).is_ok());
-    assert!(rt; out.as_slice() == b"hello".as_slice());
+    assert!(rt; are_ordered(&copy, &owned, Ordering::Less));
+    assert!(rt; are_ordered(&borrowed, &owned.to_ref(), Ordering::Less));
 }
 
 #[test]

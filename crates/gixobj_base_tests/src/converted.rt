@@ -1,19 +1,18 @@
-//! Conversions of allocation failures into the errors of decoders, encoders and loose headers.
+//! Conversions of allocation failures into the errors of each module.
 
 use gixobj_base::decode::LooseHeaderDecodeError;
-use gixobj_base::{decode, encode, kind};
+use gixobj_base::{OutOfMemory, decode, encode, kind};
 use std::alloc::{AllocError, AllocFailed};
 
 #[test]
-fn allocation_failure_becomes_decode_and_encode_error(rt: HostRuntime) {
+fn allocation_failure_becomes_out_of_memory(rt: HostRuntime) {
+    let failure = OutOfMemory::from(AllocError);
     let of_push = decode::Error::from(AllocFailed { value: 1_u8 });
+    assert!(rt; failure == OutOfMemory);
+    assert!(rt; matches!(&decode::Error::from(failure), decode::Error::OutOfMemory));
     assert!(rt; matches!(&decode::Error::from(AllocError), decode::Error::OutOfMemory));
     assert!(rt; matches!(&of_push, decode::Error::OutOfMemory));
     assert!(rt; matches!(&encode::Error::from(AllocError), encode::Error::OutOfMemory));
-}
-
-#[test]
-fn out_of_memory_becomes_loose_header_error(rt: HostRuntime) {
     let of_bytes = LooseHeaderDecodeError::from(AllocError);
     let of_kind = LooseHeaderDecodeError::from(kind::Error::OutOfMemory);
     assert!(rt; matches!(&of_bytes, LooseHeaderDecodeError::OutOfMemory));

@@ -1,7 +1,7 @@
 //! Header fields: their encodings and sizes.
 //! The encodings follow gitdatamodel, "commits", and gitformat-signature, "Commit signatures".
 
-use crate::helpers::string_of;
+use crate::helpers::{holds, string_of};
 use gixobj_actor::actor::Signature;
 use gixobj_actor::date::Time;
 use gixobj_actor::encode::{size_with_signature, trusted_header_signature};
@@ -13,35 +13,26 @@ use gixobj_fields::streams::write_parts;
 use gixobj_hash::hash::{Kind, ObjectId};
 use gixobj_hash::parse::{hex_hash, id_of_hex};
 use gixobj_hash::split::{are_digits, number_from_digits};
-use std::alloc::Global;
 
-const TREE: &[u8] = b"4b825dc642cb6eb9a060e54bf8d69288fbee4904";
+/// The encodings of fields of one line, in the order of the test.
+const LINES: &[u8] = b"ab author A\nencoding UTF-8\n\
+    tree 4b825dc642cb6eb9a060e54bf8d69288fbee4904\n\
+    tree 4b825dc642cb6eb9a060e54bf8d69288fbee4904\n";
 
+/// Hex digits are written in lower case.
 #[test]
 fn writes_parts_and_fields_of_one_line(rt: HostRuntime) {
     let mut out = Vec::new(rt.alloc());
+    let id = ObjectId::empty_tree(Kind::Sha1);
+    let hex = b"4B825DC642cb6eb9a060e54bf8d69288FBEE4904";
     assert!(rt; write_parts(&[b"a", b"", b"b "], &mut out).is_ok());
     assert!(rt; trusted_header_field(b"author", b"A", &mut out).is_ok());
     assert!(rt; header_field(rt.alloc(), b"encoding", b"UTF-8", &mut out).is_ok());
-    assert!(rt; out.as_slice() == b"ab author A\nencoding UTF-8\n".as_slice());
-    assert!(rt; size_plus_field(1, b"author", b"A") == Some(10));
-}
-
-#[test]
-fn writes_fields_of_ids(rt: HostRuntime) {
-    let mut out = Vec::new(rt.alloc());
-    let id = ObjectId::empty_tree(Kind::Sha1);
     assert!(rt; trusted_header_id(b"tree", &id, &mut out).is_ok());
-    assert!(rt; out.as_slice() == b"tree 4b825dc642cb6eb9a060e54bf8d69288fbee4904\n".as_slice());
-    assert!(rt; size_plus_id(0, b"tree", &id) == Some(46));
-}
-
-#[test]
-fn writes_fields_of_hex_in_lowercase(rt: HostRuntime) {
-    let mut out = Vec::new(rt.alloc());
-    let hex = b"4B825DC642cb6eb9a060e54bf8d69288FBEE4904";
     assert!(rt; trusted_header_hex(b"tree", hex, &mut out).is_ok());
-    assert!(rt; out.as_slice() == b"tree 4b825dc642cb6eb9a060e54bf8d69288fbee4904\n".as_slice());
+    assert!(rt; out.as_slice() == LINES);
+    assert!(rt; size_plus_field(1, b"author", b"A") == Some(10));
+    assert!(rt; size_plus_id(0, b"tree", &id) == Some(46));
     assert!(rt; size_with_hex(0, b"tree", hex) == Some(46));
 }
 
@@ -53,18 +44,17 @@ const FIELDS: &[(&[u8], &[u8])] = &[
     (b"A\n\nB\n", b"x A\n \n B\n"),
 ];
 
-/// Returns whether a header with this value has this encoding, and the size of the encoding.
-fn is_field(alloc: Global, value: &[u8], bytes: &[u8]) -> bool {
-    let mut out = Vec::new(alloc);
-    header_field_multi_line(b"x", value, &mut out).is_ok()
-        && out.as_slice() == bytes
-        && size_with_multi_line(0, b"x", value) == Some(bytes.len() as u64)
-}
-
 #[test]
 fn writes_fields_of_several_lines(rt: HostRuntime) {
     for &(value, bytes) in FIELDS {
-        assert!(rt; is_field(rt.alloc(), value, bytes), "{value:?}");
+        let mut out = Vec::new(rt.alloc());
+        assert!(rt;
+            header_field_multi_line(b"x", value, &mut out).is_ok(),
+            "{value:?}"
+        );
+        assert!(rt; out.as_slice() == bytes, "{value:?}");
+        let size = size_with_multi_line(0, b"x", value);
+        assert!(rt; size == Some(bytes.len() as u64), "{value:?}");
     }
 }
 
@@ -93,19 +83,12 @@ fn rejects_empty_value_and_newline(rt: HostRuntime) {
     assert!(rt; out.is_empty());
 }
 
-/// Returns whether these are the hex digits of the empty tree's id.
-fn is_empty_tree(hex: &[u8]) -> bool {
-    match hex_hash(hex, Kind::Sha1) {
-        Some(hex) => id_of_hex(hex).is_empty_tree(),
-        None => false,
-    }
-}
-
 #[test]
 fn parses_digits_and_hex(rt: HostRuntime) {
     assert!(rt; are_digits(b"18446744073709551615"));
     assert!(rt; !are_digits(b"0x1"));
     assert!(rt; number_from_digits(b"18446744073709551615") == Some(u64::MAX));
     assert!(rt; number_from_digits(b"18446744073709551616") == None);
-    assert!(rt; is_empty_tree(TREE));
+    let hex = hex_hash(b"4b825dc642cb6eb9a060e54bf8d69288fbee4904", Kind::Sha1);
+    assert!(rt; holds!(hex, Some(hex) => id_of_hex(hex).is_empty_tree()));
 }

@@ -24,31 +24,23 @@ fn blob_id<R: Read>(stream: &mut R, len: u64) -> Result<ObjectId, Error> {
 }
 
 #[test]
-fn hashes_prefix_of_stream(rt: HostRuntime) {
+fn hashes_prefix_of_stream_slice_and_source(rt: HostRuntime) {
+    let id = ObjectId::from_hex(HELLO);
     let mut stream: &[u8] = b"hello\nrest";
-    let id = blob_id(&mut stream, 6);
-    assert!(rt; id.ok() == ObjectId::from_hex(HELLO));
+    assert!(rt; blob_id(&mut stream, 6).ok() == id);
     assert!(rt; stream == b"rest".as_slice());
-}
-
-#[test]
-fn hashes_prefix_of_slice(rt: HostRuntime) {
     let mut slice: &[u8] = b"hello\nrest";
-    let id = compute_slice_hash(hash::Kind::Sha1, Kind::Blob, &mut slice, 6);
-    assert!(rt; id.ok() == ObjectId::from_hex(HELLO));
+    let of_slice = compute_slice_hash(hash::Kind::Sha1, Kind::Blob, &mut slice, 6);
+    assert!(rt; of_slice.ok() == id);
     assert!(rt; slice == b"rest".as_slice());
-}
-
-#[test]
-fn hashes_prefix_of_source(rt: HostRuntime) {
     let mut source: &[u8] = b"hello\nrest";
-    let id = compute_source_hash(hash::Kind::Sha1, Kind::Blob, &mut source, 6);
-    assert!(rt; id.ok() == ObjectId::from_hex(HELLO));
+    let of_source = compute_source_hash(hash::Kind::Sha1, Kind::Blob, &mut source, 6);
+    assert!(rt; of_source.ok() == id);
     assert!(rt; source == b"rest".as_slice());
 }
 
 #[test]
-fn returns_unexpected_eof_when_input_ends_early(rt: HostRuntime) {
+fn returns_unexpected_eof_when_slice_ends_early(rt: HostRuntime) {
     let mut stream: &[u8] = b"hello";
     assert!(rt; matches!(&blob_id(&mut stream, 6), Err(Error::UnexpectedEof)));
     assert!(rt; stream.is_empty());
@@ -59,7 +51,7 @@ fn returns_unexpected_eof_when_input_ends_early(rt: HostRuntime) {
 }
 
 /// Fails with `Io` or `UnexpectedEof` if a reader fails or ends after a shorter prefix of `hello` and a
-/// newline.
+/// newline. Reads no byte after the content, from a reader that would fail there.
 #[test]
 fn returns_error_when_reader_fails_or_ends(rt: HostRuntime) {
     let input = b"hello\n".as_slice();
@@ -70,12 +62,7 @@ fn returns_error_when_reader_fails_or_ends(rt: HostRuntime) {
         let mut ending = byte_reader(rest, false);
         assert!(rt; matches!(&blob_id(&mut ending, 6), Err(Error::UnexpectedEof)));
     }
-}
-
-/// Reads no byte after the content, from a reader that would fail there.
-#[test]
-fn reads_nothing_after_content(rt: HostRuntime) {
-    let mut failing = byte_reader(b"hello\n", true);
+    let mut failing = byte_reader(input, true);
     assert!(rt; blob_id(&mut failing, 6).ok() == ObjectId::from_hex(HELLO));
 }
 
@@ -132,27 +119,24 @@ const SIZES: &[(u64, hash::Kind, &str)] = &[
     ),
 ];
 
-/// Returns whether a content has this id, hashed as a slice, as a stream and byte by byte.
-fn has_id(content: &[u8], len: u64, hash: hash::Kind, want: &str) -> bool {
-    let id = ObjectId::from_hex(want.as_bytes());
-    let mut reader = byte_reader(content, true);
-    id == Some(compute_hash(hash, Kind::Blob, content))
-        && id == compute_stream_hash(hash, Kind::Blob, &mut reader, len).ok()
-        && is_read_entire(content, len, hash, id)
-}
-
-/// Returns whether a stream is read to its end, for this id.
-fn is_read_entire(content: &[u8], len: u64, hash: hash::Kind, id: Option<ObjectId>) -> bool {
+/// Returns whether a content has this id, hashed as a slice, and as a stream that is read to its end.
+fn has_id(content: &[u8], len: u64, hash: hash::Kind, id: Option<ObjectId>) -> bool {
     let mut stream = content;
-    compute_stream_hash(hash, Kind::Blob, &mut stream, len).ok() == id && stream.is_empty()
+    id == Some(compute_hash(hash, Kind::Blob, content))
+        && id == compute_stream_hash(hash, Kind::Blob, &mut stream, len).ok()
+        && stream.is_empty()
 }
 
-/// Hashes contents with lengths near that of one buffer.
+/// Hashes contents with lengths near that of one buffer, also byte by byte.
 #[test]
 fn hashes_sizes_near_buffer_length(rt: HostRuntime) {
     for &(len, hash, want) in SIZES {
         let content = content_of(rt.alloc(), len);
-        assert!(rt; has_id(&content, len, hash, want), "{len}");
+        let id = ObjectId::from_hex(want.as_bytes());
+        assert!(rt; has_id(&content, len, hash, id), "{len}");
+        let mut reader = byte_reader(&content, true);
+        let read = compute_stream_hash(hash, Kind::Blob, &mut reader, len);
+        assert!(rt; read.ok() == id, "{len}");
     }
 }
 
@@ -161,6 +145,5 @@ fn hashes_sizes_near_buffer_length(rt: HostRuntime) {
 fn hashes_ten_million_bytes(rt: HostRuntime) {
     let content = content_of(rt.alloc(), 10_000_000);
     let id = ObjectId::from_hex(b"95599bd33aac764385e09e5640f1a17e09df4e78");
-    assert!(rt; is_read_entire(&content, 10_000_000, hash::Kind::Sha1, id));
-    assert!(rt; Some(compute_hash(hash::Kind::Sha1, Kind::Blob, &content)) == id);
+    assert!(rt; has_id(&content, 10_000_000, hash::Kind::Sha1, id));
 }

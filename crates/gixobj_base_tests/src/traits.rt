@@ -3,11 +3,11 @@ ghost use Rattle.std.specs.Prelude.{◌≡◌, ◌++◌, ℕ, List, IfOk};
 ghost use Rattle.gixobj_base.specs.Encode.{encode_loose_header};
 ghost use Rattle.gixobj_base.specs.Writing.{RejectsNothing};
 
-use crate::helpers::owned_blob;
+use crate::helpers::{holds, owned_blob};
 use crate::tree::tree_of;
 use gixobj_base::hash::{self, ObjectId};
 use gixobj_base::tree::EntryKind;
-use gixobj_base::{Blob, BlobRef, Kind, Tree, WriteTo, compute_hash, encode};
+use gixobj_base::{BlobRef, Kind, Tree, WriteTo, compute_hash, encode};
 use std::alloc::Global;
 
 /// Returns the encoding of any object.
@@ -21,113 +21,77 @@ fn bytes_of<T: WriteTo>(alloc: Global, object: &T) -> Result<Vec<u8>, encode::Er
     Ok(out)
 }
 
-/// Returns the SHA-1 id of any object.
-fn id_of<T: WriteTo>(alloc: Global, object: &T) -> Result<ObjectId, encode::Error>
-    requires { T.can_write object.now }
-{
-    let content = bytes_of(alloc, object)?;
-    Ok(compute_hash(hash::Kind::Sha1, object.kind(), &content))
-}
-
-/// Returns whether an object has this kind, this encoding and the size of the encoding.
-fn has_encoding<T: WriteTo>(alloc: Global, object: &T, kind: Kind, content: &[u8]) -> bool
-    requires { T.can_write object.now }
-{
-    match bytes_of(alloc, object) {
-        Ok(out) => {
-            out.as_slice() == content
-                && object.size() == Some(content.len() as u64)
-                && object.kind() == kind
-        }
-        Err(_) => false,
-    }
-}
-
-/// Returns whether `header` and the encoding of an object have `len` bytes and begin with `prefix`.
-fn has_bytes_after<T: WriteTo>(
+/// Returns whether an object has this kind, this encoding with its size, this loose header and this SHA-1 id.
+fn is_object<T: WriteTo>(
     alloc: Global,
     object: &T,
+    kind: Kind,
     header: &[u8],
-    len: usize,
-    prefix: &[u8],
+    content: &[u8],
+    id: &str,
 ) -> bool
     requires { T.can_write object.now }
 {
-    let mut out = Vec::new(alloc);
-    out.extend_from_slice(header).is_ok()
-        && object.write_to(alloc, &mut out).is_ok()
-        && out.len() == len
-        && out.starts_with(prefix)
+    let hash = compute_hash(hash::Kind::Sha1, kind, content);
+    object.kind() == kind
+        && object.size() == Some(content.len() as u64)
+        && Some(hash) == ObjectId::from_hex(id.as_bytes())
+        && holds!(bytes_of(alloc, object), Ok(out) => out.as_slice() == content)
+        && holds!(object.loose_header(alloc), Some(it) => it.as_slice() == header)
 }
 
-/// Returns whether the loose form of an object, uncompressed, has `len` bytes and begins with `prefix`.
-fn has_loose_form<T: WriteTo>(alloc: Global, object: &T, len: usize, prefix: &[u8]) -> bool
-    requires { T.can_write object.now }
-{
-    match object.loose_header(alloc) {
-        Some(header) => has_bytes_after(alloc, object, header.as_slice(), len, prefix),
-        None => false,
-    }
-}
-
-/// Returns whether an object has this id.
-fn has_id<T: WriteTo>(alloc: Global, object: &T, id: ObjectId) -> bool
-    requires { T.can_write object.now }
-{
-    id_of(alloc, object).ok() == Some(id)
-}
-
-#[test]
-fn hello_blob(rt: HostRuntime) {
-    let hello = BlobRef::from_bytes(b"hello");
-    assert!(rt; has_encoding(rt.alloc(), &hello, Kind::Blob, b"hello"));
-    assert!(rt; has_encoding(rt.alloc(), &&hello, Kind::Blob, b"hello"));
-}
-
-/// Returns whether these bytes are written of a blob, and then of its borrowed form.
-fn is_written_twice(alloc: Global, blob: &Blob, bytes: &[u8]) -> bool {
-    let mut out = Vec::new(alloc);
-    blob.write_to(alloc, &mut out).is_ok()
-        && blob.to_ref().write_to_vec(alloc, &mut out).is_ok()
-        && out.as_slice() == bytes
-}
-
-#[test]
-fn writes_blob_after_append(rt: HostRuntime) {
-    let alloc = rt.alloc();
-    let mut blob = owned_blob(alloc, BlobRef::from_bytes(b"hello"));
-    assert!(rt; blob.bytes.extend_from_slice(b" world").is_ok());
-    assert!(rt; has_encoding(alloc, &blob, Kind::Blob, b"hello world"));
-    assert!(rt; has_loose_form(alloc, &blob, 19, b"blob 11\0hello world"));
-    assert!(rt; is_written_twice(alloc, &blob, b"hello worldhello world"));
-}
-
-/// Empty objects have the ids that `git hash-object` prints.
-#[test]
-fn empty_objects_have_ids_of_git(rt: HostRuntime) {
-    let alloc = rt.alloc();
-    let blob = Blob {
-        bytes: Vec::new(alloc),
-    };
-    let tree = Tree::empty(alloc);
-    assert!(rt; has_id(alloc, &blob, ObjectId::empty_blob(hash::Kind::Sha1)));
-    assert!(rt; has_id(alloc, &tree, ObjectId::empty_tree(hash::Kind::Sha1)));
-    assert!(rt; has_loose_form(alloc, &blob, 7, b"blob 0\0"));
-    assert!(rt; has_loose_form(alloc, &tree, 7, b"tree 0\0"));
-}
-
-/// Id that `git mktree` prints for one empty file.
-const TREE_OF_EMPTY: &[u8] = b"417c01c8795a35b8e835113a85a5c0c1c77f67fb";
+/// Contents of blobs, their loose headers, and the ids that `git hash-object` prints.
+const BLOBS: &[(&[u8], &[u8], &str)] = &[
+    (b"", b"blob 0\0", "e69de29bb2d1d6434b8b29ae775ad8c2e48c5391"),
+    (
+        b"hello",
+        b"blob 5\0",
+        "b6fc4c620b67d95f953a5c1c1230aaab5db5a1b0",
+    ),
+    (
+        b"hello world",
+        b"blob 11\0",
+        "95d09f2b10159347eece71399a7e2e907ea3df4f",
+    ),
+];
 
 /// Writing a reference writes the object that it refers to.
 #[test]
-fn writes_object_through_reference(rt: HostRuntime) {
+fn writes_blobs_through_references(rt: HostRuntime) {
     let alloc = rt.alloc();
-    let null = ObjectId::null(hash::Kind::Sha1);
-    let empty = ObjectId::empty_blob(hash::Kind::Sha1);
-    let tree = tree_of(alloc, &[(EntryKind::Blob, b"empty")], empty);
-    let id = ObjectId::from_hex(TREE_OF_EMPTY).unwrap_or(null);
-    assert!(rt; has_id(alloc, &&tree, id));
-    assert!(rt; has_loose_form(alloc, &&tree, 41, b"tree 33\0100644 empty\0"));
-    assert!(rt; <&Tree as WriteTo>::size(&&tree) == Some(33));
+    for &(content, header, id) in BLOBS {
+        let blob = BlobRef::from_bytes(content);
+        let owned = owned_blob(alloc, blob);
+        assert!(rt;
+            is_object(alloc, &blob, Kind::Blob, header, content, id),
+            "{id}"
+        );
+        assert!(rt;
+            is_object(alloc, &&blob, Kind::Blob, header, content, id),
+            "{id}"
+        );
+        assert!(rt;
+            is_object(alloc, &owned, Kind::Blob, header, content, id),
+            "{id}"
+        );
+    }
+}
+
+/// The encoding of a tree of one empty file.
+const TREE_OF_EMPTY: &[u8] = b"100644 empty\0\
+    \xe6\x9d\xe2\x9b\xb2\xd1\xd6\x43\x4b\x8b\x29\xae\x77\x5a\xd8\xc2\xe4\x8c\x53\x91";
+
+/// Trees have the ids that `git mktree` prints.
+#[test]
+fn writes_trees_through_references(rt: HostRuntime) {
+    let alloc = rt.alloc();
+    let (empty, one) = (
+        Tree::empty(alloc),
+        tree_of(alloc, &[(EntryKind::Blob, b"empty", true)]),
+    );
+    let id = "4b825dc642cb6eb9a060e54bf8d69288fbee4904";
+    assert!(rt; is_object(alloc, &empty, Kind::Tree, b"tree 0\0", b"", id));
+    let id = "417c01c8795a35b8e835113a85a5c0c1c77f67fb";
+    assert!(rt; is_object(alloc, &&one, Kind::Tree, b"tree 33\0", TREE_OF_EMPTY, id));
+    assert!(rt; <&Tree as WriteTo>::size(&&one) == Some(33));
 }

@@ -1,36 +1,31 @@
 //! Written trees: rejected names, failing writers, and ids.
 
 use super::tree_of;
+use crate::helpers::holds;
 use crate::limited::Limited;
 use gixobj_base::encode::Error;
 use gixobj_base::hash::{Kind, ObjectId};
 use gixobj_base::tree::EntryKind;
 use gixobj_base::{Tree, WriteTo};
-use std::alloc::Global;
 
-/// Three entries. The second and the third name have a zero byte.
-const WITH_A_ZERO_BYTE: &[(EntryKind, &[u8])] = &[
-    (EntryKind::Blob, b"a"),
-    (EntryKind::Link, b"b\0c"),
-    (EntryKind::Blob, b"d\0"),
+/// Three entries of the empty blob's id. The second and the third name have a zero byte.
+const WITH_A_ZERO_BYTE: &[(EntryKind, &[u8], bool)] = &[
+    (EntryKind::Blob, b"a", true),
+    (EntryKind::Link, b"b\0c", true),
+    (EntryKind::Blob, b"d\0", true),
 ];
-
-/// Returns whether writing a tree fails with `NullbyteInFilename` for this name.
-fn is_rejected_for(alloc: Global, tree: &Tree, out: &mut Vec<u8>, name: &[u8]) -> bool {
-    match &tree.write_to(alloc, out) {
-        Err(Error::NullbyteInFilename { name: rejected }) => rejected.as_slice() == name,
-        _ => false,
-    }
-}
 
 /// Writes the entry before a rejected name, and its own mode and space.
 #[test]
 fn rejects_name_with_zero_byte(rt: HostRuntime) {
     let alloc = rt.alloc();
-    let tree = tree_of(alloc, WITH_A_ZERO_BYTE, ObjectId::empty_blob(Kind::Sha1));
+    let tree = tree_of(alloc, WITH_A_ZERO_BYTE);
     let mut out = Vec::new(alloc);
     assert!(rt; out.extend_from_slice(b"before").is_ok());
-    assert!(rt; is_rejected_for(alloc, &tree, &mut out, b"b\0c"));
+    let outcome = tree.write_to(alloc, &mut out);
+    assert!(rt;
+        holds!(&outcome, Err(Error::NullbyteInFilename { name }) => name.as_slice() == b"b\0c".as_slice())
+    );
     assert!(rt; out.len() == 6 + 29 + 7);
     assert!(rt; out.starts_with(b"before100644 a\0"));
     assert!(rt; out.ends_with(b"120000 "));
@@ -38,32 +33,27 @@ fn rejects_name_with_zero_byte(rt: HostRuntime) {
 }
 
 /// Entries of each kind, in the order of a tree.
-const OF_EACH_KIND: &[(EntryKind, &[u8])] = &[
-    (EntryKind::Blob, b"docs.txt"),
-    (EntryKind::Tree, b"docs"),
-    (EntryKind::Blob, b"hello.txt"),
-    (EntryKind::Link, b"link"),
-    (EntryKind::Commit, b"module"),
-    (EntryKind::BlobExecutable, b"run.sh"),
+const OF_EACH_KIND: &[(EntryKind, &[u8], bool)] = &[
+    (EntryKind::Blob, b"docs.txt", true),
+    (EntryKind::Tree, b"docs", true),
+    (EntryKind::Blob, b"hello.txt", true),
+    (EntryKind::Link, b"link", true),
+    (EntryKind::Commit, b"module", true),
+    (EntryKind::BlobExecutable, b"run.sh", true),
 ];
-
-/// Returns whether a writer with room for `room` bytes fails after that prefix of a tree's encoding.
-fn stops_at(alloc: Global, tree: &Tree, bytes: &[u8], room: usize) -> bool {
-    let held = Vec::new(alloc);
-    let mut writer = Limited { held, room };
-    let outcome = tree.write_to(alloc, &mut writer);
-    writer.stopped_at(&outcome, bytes, room)
-}
 
 #[test]
 fn returns_writer_error_after_each_prefix(rt: HostRuntime) {
     let alloc = rt.alloc();
-    let tree = tree_of(alloc, OF_EACH_KIND, ObjectId::empty_blob(Kind::Sha1));
+    let tree = tree_of(alloc, OF_EACH_KIND);
     let mut bytes = Vec::new(alloc);
     assert!(rt; tree.write_to_vec(alloc, &mut bytes).is_ok());
     assert!(rt; bytes.len() == 36 + 31 + 37 + 32 + 34 + 34);
     for room in 0..bytes.len() {
-        assert!(rt; stops_at(alloc, &tree, &bytes, room), "{room}");
+        let held = Vec::new(alloc);
+        let mut writer = Limited { held, room };
+        let outcome = tree.write_to(alloc, &mut writer);
+        assert!(rt; writer.stopped_at(&outcome, &bytes, room), "{room}");
     }
 }
 
