@@ -2,21 +2,13 @@
 //! with ample memory. Ids are those that `git mktree --missing` prints.
 
 use crate::samples::{
-    self, empty_editor, has_id_and_count, insert_by, or_empty, path_of, stored_file,
+    NOT_CALLED, OUT_OF_MEMORY, cursor_of, empty_editor, has_id_and_count, number_of, or_empty,
+    removed, stored_file, upserted, upserted_by, written,
 };
-use crate::writes::stops_at_the_second;
-use bstr::BString;
-use gixobj_editor::editor::{Cursor, Editor, Error, Written};
+use crate::writes::{ALL_THREE, stops_at};
+use gixobj_editor::editor::Editor;
 use gixobj_keep::Memory;
-use std::alloc::{AllocError, Global};
-
-/// Builds a path, again if the first allocation fails.
-fn path_again(alloc: Global, bytes: &[u8]) -> Result<Vec<BString>, AllocError> {
-    match path_of(alloc, bytes) {
-        Ok(path) => Ok(path),
-        Err(_) => path_of(alloc, bytes),
-    }
-}
+use std::alloc::Global;
 
 /// Returns an editor of one file whose directories below the root are stored; tries again if an allocation
 /// fails.
@@ -27,43 +19,38 @@ fn stored_again(alloc: Global, names: &[&[u8]]) -> Editor<Memory> {
     }
 }
 
-/// Inserts the file, again after [`Error::OutOfMemory`].
-fn insert(editor: &mut Editor<Memory>, path: &[BString]) -> Result<(), Error> {
-    match samples::insert(editor, path) {
-        Err(Error::OutOfMemory) => samples::insert(editor, path),
-        answer => answer,
-    }
-}
-
-/// Inserts the file, and returns whether that succeeds.
+/// Inserts the file, again after a failed allocation, and returns whether that succeeds.
 fn is_inserted(alloc: Global, editor: &mut Editor<Memory>, path: &[u8]) -> bool {
-    match path_again(alloc, path) {
-        Ok(path) => insert(editor, &path).is_ok(),
-        Err(_) => false,
+    match upserted(alloc, editor, path) {
+        NOT_CALLED | OUT_OF_MEMORY => upserted(alloc, editor, path) == 0,
+        number => number == 0,
     }
 }
 
 /// Removes the entry at a path in a single attempt, and returns whether that succeeds.
 fn is_removed(alloc: Global, editor: &mut Editor<Memory>, path: &[u8]) -> bool {
-    match path_again(alloc, path) {
-        Ok(path) => editor.try_remove(&path).is_ok(),
+    match removed(alloc, editor, path) {
+        NOT_CALLED => removed(alloc, editor, path) == 0,
+        number => number == 0,
+    }
+}
+
+/// Writes the editor, again after an error. Returns whether that emits `count` trees, the last of the id
+/// `root`, and counts `saved` unchanged directories.
+fn is_written(
+    alloc: Global,
+    editor: &mut Editor<Memory>,
+    saved: usize,
+    count: usize,
+    root: &str,
+) -> bool {
+    let answer = match written(alloc, editor) {
+        Ok(written) => Ok(written),
+        Err(_) => written(alloc, editor),
+    };
+    match answer {
+        Ok(written) => written.saved == saved && has_id_and_count(&written, root, count),
         Err(_) => false,
-    }
-}
-
-/// Writes the editor, again after an error; returns `None` if both writes fail.
-fn written(alloc: Global, editor: &mut Editor<Memory>) -> Option<Written> {
-    match samples::written(alloc, editor) {
-        Ok(written) => Some(written),
-        Err(_) => samples::written(alloc, editor).ok(),
-    }
-}
-
-/// Returns whether a write emits `count` trees, the last of the id `root`.
-fn is_written(alloc: Global, editor: &mut Editor<Memory>, count: usize, root: &str) -> bool {
-    match written(alloc, editor) {
-        Some(written) => has_id_and_count(&written, root, count),
-        None => false,
     }
 }
 
@@ -76,12 +63,12 @@ fn remove_then_again_whatever_allocation_fails(rt: HostRuntime) {
     assert!(rt; is_removed(alloc, &mut editor, b"a"));
     assert!(rt; is_inserted(alloc, &mut editor, b"a c"));
     let root = "f80f23b9ec7e1c6321e5ec3c2551a24e9c7afab2";
-    assert!(rt; is_written(alloc, &mut editor, 2, root));
+    assert!(rt; is_written(alloc, &mut editor, 0, 2, root));
 }
 
 /// Returns whether the first or the second write stops at its second tree.
 fn is_stopped(alloc: Global, editor: &mut Editor<Memory>) -> bool {
-    stops_at_the_second(alloc, editor) || stops_at_the_second(alloc, editor)
+    stops_at(alloc, editor, 2, ALL_THREE) || stops_at(alloc, editor, 2, ALL_THREE)
 }
 
 /// A write emits all trees after one that failed at its second tree.
@@ -93,42 +80,27 @@ fn failed_out_whatever_allocation_fails(rt: HostRuntime) {
     assert!(rt; is_inserted(alloc, &mut editor, b"b y"));
     assert!(rt; is_stopped(alloc, &mut editor));
     let root = "77bbb40fde4f7afc2609858ec55da053db6ba24f";
-    assert!(rt; is_written(alloc, &mut editor, 3, root));
+    assert!(rt; is_written(alloc, &mut editor, 0, 3, root));
 }
 
-/// Inserts a file by a cursor, then removes the empty path.
-fn insert_and_remove(cursor: &mut Cursor<'_, Memory>, path: &[BString]) -> Result<(), Error> {
-    insert_by(cursor, path)?;
-    cursor.try_remove(&[])
-}
-
-/// Inserts a file by a cursor at a directory, then removes the empty path.
-fn try_insert_at(
-    editor: &mut Editor<Memory>,
-    directory: &[BString],
-    path: &[BString],
-) -> Result<(), Error> {
-    let mut cursor = editor.cursor_at(directory)?;
-    insert_and_remove(&mut cursor, path)
-}
-
-/// Calls [`try_insert_at`], again after [`Error::OutOfMemory`].
-fn insert_at(
-    editor: &mut Editor<Memory>,
-    directory: &[BString],
-    path: &[BString],
-) -> Result<(), Error> {
-    match try_insert_at(editor, directory, path) {
-        Err(Error::OutOfMemory) => try_insert_at(editor, directory, path),
-        answer => answer,
+/// Inserts the file `c` by a cursor at the directory `a`, then removes the empty path. Returns the number of
+/// the error, or 0.
+fn inserted_at(alloc: Global, editor: &mut Editor<Memory>) -> u8 {
+    let mut cursor = match cursor_of(alloc, editor, b"a") {
+        Ok(cursor) => cursor,
+        Err(number) => return number,
+    };
+    match upserted_by(alloc, &mut cursor, b"c") {
+        0 => number_of(&cursor.try_remove(&[])),
+        number => number,
     }
 }
 
-/// Inserts the file `c` by a cursor at the directory `a`, and returns whether that succeeds.
+/// Inserts the file `c` by a cursor, again after a failed allocation, and returns whether that succeeds.
 fn is_inserted_at(alloc: Global, editor: &mut Editor<Memory>) -> bool {
-    match (path_again(alloc, b"a"), path_again(alloc, b"c")) {
-        (Ok(directory), Ok(path)) => insert_at(editor, &directory, &path).is_ok(),
-        _ => false,
+    match inserted_at(alloc, editor) {
+        NOT_CALLED | OUT_OF_MEMORY => inserted_at(alloc, editor) == 0,
+        number => number == 0,
     }
 }
 
@@ -138,15 +110,7 @@ fn cursor_keeps_whatever_allocation_fails(rt: HostRuntime) {
     let mut editor = stored_again(rt.alloc(), &[b"a", b"b"]);
     assert!(rt; is_inserted_at(rt.alloc(), &mut editor));
     let root = "d79ed5c1e2ff97a59beb0fc1a1b79b68aa0be74a";
-    assert!(rt; is_written(rt.alloc(), &mut editor, 2, root));
-}
-
-/// Returns whether a write emits only the root, of this id, and counts two unchanged directories.
-fn saves_two(alloc: Global, editor: &mut Editor<Memory>, root: &str) -> bool {
-    match written(alloc, editor) {
-        Some(written) => written.saved == 2 && has_id_and_count(&written, root, 1),
-        None => false,
-    }
+    assert!(rt; is_written(rt.alloc(), &mut editor, 0, 2, root));
 }
 
 /// Only the root is emitted after a file was inserted into a stored directory and removed.
@@ -156,11 +120,6 @@ fn emits_only_root_whatever_allocation_fails(rt: HostRuntime) {
     let mut editor = stored_again(alloc, &[b"a", b"b", b"c"]);
     assert!(rt; is_inserted(alloc, &mut editor, b"a b d"));
     assert!(rt; is_removed(alloc, &mut editor, b"a b d"));
-    assert!(rt;
-        saves_two(
-            alloc,
-            &mut editor,
-            "0777f611c446507a3c6fa4a976a7a8d5f0eaed6d"
-        )
-    );
+    let root = "0777f611c446507a3c6fa4a976a7a8d5f0eaed6d";
+    assert!(rt; is_written(alloc, &mut editor, 2, 1, root));
 }

@@ -1,52 +1,37 @@
 //! Calls of a cursor that return the cursor, and its store. Ids are those that `git mktree --missing` prints.
 
 use crate::samples::{
-    FILE, cursor_of, empty_editor, or_empty, path_of, stored_b, stored_file, upserted_by, writes,
+    FILE, TREE_OF_B, cursor_of, empty_editor, or_empty, path_of, stored_file, upserted_by, writes,
 };
 use bstr::BString;
-use gixobj_base::hash::ObjectId;
+use gixobj_base::Kind;
+use gixobj_base::hash::Kind as HashKind;
 use gixobj_base::tree::EntryKind;
 use gixobj_editor::editor::{Cursor, Editor, Error};
 use gixobj_keep::Memory;
 use std::alloc::Global;
 
-/// Inserts the file at two paths, one after the other.
-fn insert_both<'c, 'e>(
-    cursor: &'c mut Cursor<'e, Memory>,
-    first: &[BString],
-    second: &[BString],
-) -> Result<&'c mut Cursor<'e, Memory>, Error> {
-    cursor
-        .upsert(first, EntryKind::Blob, FILE)?
-        .upsert(second, EntryKind::Blob, FILE)
-}
-
-/// Removes the entry at a path, then a leaf.
-fn remove_both<'c, 'e>(
-    cursor: &'c mut Cursor<'e, Memory>,
-    first: &[BString],
-    leaf: &[BString],
-) -> Result<&'c mut Cursor<'e, Memory>, Error> {
-    cursor.remove(first)?.remove_leaf(leaf)
-}
-
 /// Makes chained edits after which only the second of three files remains.
-fn edit_all(
-    cursor: &mut Cursor<'_, Memory>,
+fn edit_all<'c, 'e>(
+    cursor: &'c mut Cursor<'e, Memory>,
     first: &[BString],
     second: &[BString],
     third: &[BString],
-) -> Result<(), Error> {
-    remove_both(insert_both(cursor, second, third)?, first, third)?;
-    Ok(())
+) -> Result<&'c mut Cursor<'e, Memory>, Error> {
+    cursor
+        .upsert(second, EntryKind::Blob, FILE)?
+        .upsert(third, EntryKind::Blob, FILE)?
+        .remove(first)?
+        .remove_leaf(third)
 }
 
-/// Makes chained edits after which only the file `c` remains; returns whether they succeed. The cursor holds
-/// no borrow of the path that it was made at.
+/// Makes chained edits after a use of the store, and returns whether they succeed: only the file `c` remains.
+/// The cursor holds no borrow of the path that it was made at.
 fn is_edited(alloc: Global, editor: &mut Editor<Memory>) -> bool {
-    let Some(mut cursor) = cursor_of(alloc, editor, b"a") else {
+    let Ok(mut cursor) = cursor_of(alloc, editor, b"a") else {
         return false;
     };
+    let _ = cursor.store_mut();
     match (
         path_of(alloc, b"b"),
         path_of(alloc, b"c"),
@@ -64,10 +49,10 @@ const C_AND_ROOT: &[&[u8]] = &[
 ];
 
 #[test]
-fn makes_chained_edits(rt: HostRuntime) {
+fn makes_chained_edits_after_use_of_store(rt: HostRuntime) {
     let mut editor = or_empty(rt.alloc(), stored_file(rt.alloc(), &[b"a", b"b"]));
     assert!(rt; is_edited(rt.alloc(), &mut editor));
-    assert!(rt; writes(rt.alloc(), &mut editor, C_AND_ROOT));
+    assert!(rt; writes(rt.alloc(), &mut editor, 0, C_AND_ROOT));
 }
 
 /// The ids of the tree of the files `b` and `c`, and of the root with this tree at `a`.
@@ -76,22 +61,22 @@ const BOTH: &[&[u8]] = &[
     b"d79ed5c1e2ff97a59beb0fc1a1b79b68aa0be74a",
 ];
 
-/// Inserts the directory `a` of this id by a cursor, and returns whether that succeeds.
-fn is_inserted(alloc: Global, cursor: &mut Cursor<'_, Memory>, id: ObjectId) -> bool {
-    match path_of(alloc, b"a") {
-        Ok(directory) => cursor.try_upsert(&directory, EntryKind::Tree, id).is_ok(),
-        Err(_) => false,
-    }
-}
-
 /// Stores a directory of the file `b`, and inserts it at `a` and the file `a/c`, all by a cursor. Returns
 /// whether that succeeds.
 fn is_stored(alloc: Global, editor: &mut Editor<Memory>) -> bool {
     let mut cursor = editor.to_cursor();
-    match stored_b(alloc, cursor.store_mut()) {
-        Some(id) => is_inserted(alloc, &mut cursor, id)
-            && upserted_by(alloc, &mut cursor, b"a c") == 0,
-        None => false,
+    let Ok(id) = cursor
+        .store_mut()
+        .insert(Kind::Tree, HashKind::Sha1, TREE_OF_B)
+    else {
+        return false;
+    };
+    match path_of(alloc, b"a") {
+        Ok(directory) => {
+            cursor.try_upsert(&directory, EntryKind::Tree, id).is_ok()
+                && upserted_by(alloc, &mut cursor, b"a c") == 0
+        }
+        Err(_) => false,
     }
 }
 
@@ -100,33 +85,5 @@ fn edits_in_directory_stored_by_cursor(rt: HostRuntime) {
     let mut editor = empty_editor(rt.alloc());
     assert!(rt; is_stored(rt.alloc(), &mut editor));
     assert!(rt; editor.lookups() == 1);
-    assert!(rt; writes(rt.alloc(), &mut editor, BOTH));
-}
-
-/// Inserts the file `b` by a cursor at the directory `a` after a use of its store, and returns whether that
-/// succeeds.
-fn is_inserted_after_use(alloc: Global, editor: &mut Editor<Memory>) -> bool {
-    let Some(mut cursor) = cursor_of(alloc, editor, b"a") else {
-        return false;
-    };
-    let _ = cursor.store_mut();
-    upserted_by(alloc, &mut cursor, b"b") == 0
-}
-
-/// Returns whether [`Editor::get`] returns the file at `a/b`.
-fn is_got(alloc: Global, editor: &Editor<Memory>) -> bool {
-    let Ok(file) = path_of(alloc, b"a b") else {
-        return false;
-    };
-    match editor.get(&file) {
-        Ok(Some(entry)) => entry.oid == FILE,
-        _ => false,
-    }
-}
-
-#[test]
-fn prefix_is_unchanged_after_use_of_store(rt: HostRuntime) {
-    let mut editor = empty_editor(rt.alloc());
-    assert!(rt; is_inserted_after_use(rt.alloc(), &mut editor));
-    assert!(rt; is_got(rt.alloc(), &editor));
+    assert!(rt; writes(rt.alloc(), &mut editor, 0, BOTH));
 }

@@ -12,18 +12,17 @@ use std::alloc::{AllocError, Global};
 
 pub(crate) const FILE: ObjectId = ObjectId::Sha1([1; 20]);
 
-/// The number for a call that isn't made, since the allocation of its path failed.
-const NOT_CALLED: u8 = 9;
+pub(crate) const NULL: ObjectId = ObjectId::Sha1([0; 20]);
 
-/// Appends a name to a path.
-pub(crate) fn push_name(
-    alloc: Global,
-    path: &mut Vec<BString>,
-    name: &[u8],
-) -> Result<(), AllocError> {
-    path.push(BString::from_slice(alloc, name)?)?;
-    Ok(())
-}
+/// The encoding of the tree of only the file `b`.
+pub(crate) const TREE_OF_B: &[u8] =
+    b"100644 b\0\x01\x01\x01\x01\x01\x01\x01\x01\x01\x01\x01\x01\x01\x01\x01\x01\x01\x01\x01\x01";
+
+/// The number of [`Error::OutOfMemory`].
+pub(crate) const OUT_OF_MEMORY: u8 = 6;
+
+/// The number for a call that isn't made, since the allocation of its path failed.
+pub(crate) const NOT_CALLED: u8 = 9;
 
 /// Builds a path of the names between spaces; `.` alone is the empty path.
 pub(crate) fn path_of(alloc: Global, names: &[u8]) -> Result<Vec<BString>, AllocError> {
@@ -32,81 +31,33 @@ pub(crate) fn path_of(alloc: Global, names: &[u8]) -> Result<Vec<BString>, Alloc
         return Ok(path);
     }
     for name in names.split(|byte| *byte == b' ') {
-        push_name(alloc, &mut path, name)?;
+        path.push(BString::from_slice(alloc, name)?)?;
     }
     Ok(path)
 }
 
-/// Appends an entry to a tree.
-pub(crate) fn push_entry(
-    alloc: Global,
-    tree: &mut Tree,
-    kind: EntryKind,
-    name: &[u8],
-    oid: ObjectId,
-) -> Result<(), AllocError> {
-    let filename = BString::from_slice(alloc, name)?;
-    let mode = kind.into();
-    tree.entries.push(Entry {
-        mode,
-        filename,
-        oid,
-    })?;
-    Ok(())
-}
-
-/// Builds a tree of one entry.
+/// Builds a tree of these entries.
 pub(crate) fn tree_of(
     alloc: Global,
-    kind: EntryKind,
-    name: &[u8],
-    oid: ObjectId,
+    entries: &[(EntryKind, &[u8], ObjectId)],
 ) -> Result<Tree, AllocError> {
     let mut tree = Tree::empty(alloc);
-    push_entry(alloc, &mut tree, kind, name, oid)?;
+    for (kind, name, oid) in entries {
+        let filename = BString::from_slice(alloc, name)?;
+        tree.entries.push(Entry {
+            mode: (*kind).into(),
+            filename,
+            oid: *oid,
+        })?;
+    }
     Ok(tree)
-}
-
-/// Encodes a tree.
-fn bytes_of(alloc: Global, tree: &Tree) -> Result<Vec<u8>, encode::Error> {
-    let mut encoding = Vec::new(alloc);
-    tree.write_to(alloc, &mut encoding)?;
-    Ok(encoding)
 }
 
 /// Stores a tree, and returns its id, or `None` if that fails.
 pub(crate) fn stored(alloc: Global, store: &mut Memory, tree: &Tree) -> Option<ObjectId> {
-    match bytes_of(alloc, tree) {
-        Ok(encoding) => store.insert(Kind::Tree, HashKind::Sha1, &encoding).ok(),
-        Err(_) => None,
-    }
-}
-
-/// Stores a tree of only the file `b`, and returns its id.
-pub(crate) fn stored_b(alloc: Global, store: &mut Memory) -> Option<ObjectId> {
-    match tree_of(alloc, EntryKind::Blob, b"b", FILE) {
-        Ok(tree) => stored(alloc, store, &tree),
-        Err(_) => None,
-    }
-}
-
-/// Returns an editor of this root, if it is well-formed.
-pub(crate) fn editor_of<S: Drop>(root: Tree, store: S) -> Option<Editor<S>> {
-    if !root.is_well_formed() {
-        return None;
-    }
-    Some(Editor::new(root, store, HashKind::Sha1))
-}
-
-/// Returns an editor of a root that has only this directory.
-pub(crate) fn over_a_directory<S: Drop>(
-    alloc: Global,
-    name: &[u8],
-    id: ObjectId,
-    store: S,
-) -> Option<Editor<S>> {
-    match tree_of(alloc, EntryKind::Tree, name, id) {
-        Ok(root) => editor_of(root, store),
+    let mut encoding = Vec::new(alloc);
+    match tree.write_to(alloc, &mut encoding) {
+        Ok(()) => store.insert(Kind::Tree, HashKind::Sha1, &encoding).ok(),
         Err(_) => None,
     }
 }
@@ -128,7 +79,7 @@ fn stored_path(alloc: Global, store: &mut Memory, names: &[&[u8]]) -> Option<Tre
     let (mut kind, mut id) = (EntryKind::Blob, FILE);
     let mut root = Tree::empty(alloc);
     for name in names.iter().rev() {
-        root = tree_of(alloc, kind, name, id).ok()?;
+        root = tree_of(alloc, &[(kind, *name, id)]).ok()?;
         id = stored(alloc, store, &root)?;
         kind = EntryKind::Tree;
     }
@@ -139,34 +90,58 @@ fn stored_path(alloc: Global, store: &mut Memory, names: &[&[u8]]) -> Option<Tre
 /// allocation fails.
 pub(crate) fn stored_file(alloc: Global, names: &[&[u8]]) -> Option<Editor<Memory>> {
     let mut store = Memory::new(alloc);
-    match stored_path(alloc, &mut store, names) {
-        Some(root) => editor_of(root, store),
-        None => None,
+    let root = stored_path(alloc, &mut store, names)?;
+    if !root.is_well_formed() {
+        return None;
+    }
+    Some(Editor::new(root, store, HashKind::Sha1))
+}
+
+/// Returns the number of an error.
+fn number(error: &Error) -> u8 {
+    match error {
+        Error::EmptyPathComponent => 1,
+        Error::SlashInPathComponent => 2,
+        Error::FindExistingObject(_) => 3,
+        Error::CannotRemoveNonLeaf { .. } => 4,
+        Error::MalformedTree => 5,
+        Error::OutOfMemory => OUT_OF_MEMORY,
     }
 }
 
-/// Returns the number of an error, or 0 for success.
-pub(crate) fn number<T>(answer: &Result<T, Error>) -> u8 {
+/// Returns the number of the error of a call, or 0 for success.
+pub(crate) fn number_of(answer: &Result<(), Error>) -> u8 {
     match answer {
-        Ok(_) => 0,
-        Err(Error::EmptyPathComponent) => 1,
-        Err(Error::SlashInPathComponent) => 2,
-        Err(Error::FindExistingObject(_)) => 3,
-        Err(Error::CannotRemoveNonLeaf { .. }) => 4,
-        Err(Error::MalformedTree) => 5,
-        Err(Error::OutOfMemory) => 6,
+        Ok(()) => 0,
+        Err(error) => number(error),
     }
-}
-
-/// Inserts the file at a path.
-pub(crate) fn insert<S: Find>(editor: &mut Editor<S>, path: &[BString]) -> Result<(), Error> {
-    editor.try_upsert(path, EntryKind::Blob, FILE)
 }
 
 /// Inserts the file at a path, and returns the number of the error or 0.
 pub(crate) fn upserted<S: Find>(alloc: Global, editor: &mut Editor<S>, path: &[u8]) -> u8 {
     match path_of(alloc, path) {
-        Ok(path) => number(&insert(editor, &path)),
+        Ok(path) => number_of(&editor.try_upsert(&path, EntryKind::Blob, FILE)),
+        Err(_) => NOT_CALLED,
+    }
+}
+
+/// Inserts a directory by its id, and returns whether that succeeds.
+pub(crate) fn is_placed<S: Find>(
+    alloc: Global,
+    editor: &mut Editor<S>,
+    path: &[u8],
+    id: ObjectId,
+) -> bool {
+    match path_of(alloc, path) {
+        Ok(path) => editor.try_upsert(&path, EntryKind::Tree, id).is_ok(),
+        Err(_) => false,
+    }
+}
+
+/// Removes the entry at a path, and returns the number of the error or 0.
+pub(crate) fn removed<S: Find>(alloc: Global, editor: &mut Editor<S>, path: &[u8]) -> u8 {
+    match path_of(alloc, path) {
+        Ok(path) => number_of(&editor.try_remove(&path)),
         Err(_) => NOT_CALLED,
     }
 }
@@ -185,30 +160,25 @@ pub(crate) fn are_upserted<S: Find>(
     true
 }
 
-/// Returns a cursor at a directory, or `None` after an error.
+/// Returns a cursor at a directory, or the number of the error.
 pub(crate) fn cursor_of<'a, S: Find>(
     alloc: Global,
     editor: &'a mut Editor<S>,
     directory: &[u8],
-) -> Option<Cursor<'a, S>> {
-    match path_of(alloc, directory) {
-        Ok(directory) => editor.cursor_at(&directory).ok(),
-        Err(_) => None,
+) -> Result<Cursor<'a, S>, u8> {
+    let Ok(directory) = path_of(alloc, directory) else {
+        return Err(NOT_CALLED);
+    };
+    match editor.cursor_at(&directory) {
+        Ok(cursor) => Ok(cursor),
+        Err(error) => Err(number(&error)),
     }
-}
-
-/// Inserts the file at a path from a cursor.
-pub(crate) fn insert_by<S: Find>(
-    cursor: &mut Cursor<'_, S>,
-    path: &[BString],
-) -> Result<(), Error> {
-    cursor.try_upsert(path, EntryKind::Blob, FILE)
 }
 
 /// Inserts the file at a path from a cursor, and returns the number of the error or 0.
 pub(crate) fn upserted_by<S: Find>(alloc: Global, cursor: &mut Cursor<'_, S>, path: &[u8]) -> u8 {
     match path_of(alloc, path) {
-        Ok(path) => number(&insert_by(cursor, &path)),
+        Ok(path) => number_of(&cursor.try_upsert(&path, EntryKind::Blob, FILE)),
         Err(_) => NOT_CALLED,
     }
 }
@@ -219,37 +189,27 @@ pub(crate) fn is_run<S: Keep>(alloc: Global, editor: &mut Editor<S>, script: &[u
     edit_on(alloc, editor, script, HashKind::Sha1, out).is_ok()
 }
 
-/// Returns whether a tree was emitted with this id, and the id is that of its encoding.
-fn is_named(alloc: Global, pair: &(ObjectId, Tree), hex: &[u8]) -> bool {
-    let (id, tree) = pair;
-    match tree.compute_id(alloc, HashKind::Sha1) {
-        Ok(computed) => computed == *id && ObjectId::from_hex(hex) == Some(computed),
-        Err(_) => false,
-    }
-}
-
-/// Returns whether each tree was emitted with the id at its position.
+/// Returns whether each tree was emitted with the id at its position, and the id is that of its encoding.
 fn are_named(alloc: Global, trees: &[(ObjectId, Tree)], ids: &[&[u8]]) -> bool {
-    for (pair, hex) in trees.iter().zip(ids) {
-        if !is_named(alloc, pair, hex) {
+    for ((id, tree), hex) in trees.iter().zip(ids) {
+        let computed = tree.compute_id(alloc, HashKind::Sha1).ok();
+        if computed != Some(*id) || computed != ObjectId::from_hex(hex) {
             return false;
         }
     }
     true
 }
 
-/// Returns whether the last tree has the id of the write.
-fn is_last_named(written: &Written) -> bool {
-    match written.trees.last() {
+/// Returns whether trees of these ids were emitted in this order, the last has the id of the write, and
+/// `saved` unchanged directories were counted.
+fn has_emitted(alloc: Global, written: &Written, saved: usize, ids: &[&[u8]]) -> bool {
+    let is_last = match written.trees.last() {
         Some((id, _)) => *id == written.id,
         None => false,
-    }
-}
-
-/// Returns whether trees of these ids were emitted in this order, and the last has the id of the write.
-pub(crate) fn has_emitted(alloc: Global, written: &Written, ids: &[&[u8]]) -> bool {
-    written.trees.len() == ids.len()
-        && is_last_named(written)
+    };
+    is_last
+        && written.saved == saved
+        && written.trees.len() == ids.len()
         && are_named(alloc, written.trees.as_slice(), ids)
 }
 
@@ -261,26 +221,36 @@ pub(crate) fn written<S>(
     editor.write(|tree: &Tree| tree.compute_id(alloc, HashKind::Sha1))
 }
 
-/// Returns whether a write emits trees of these ids.
-pub(crate) fn writes<S>(alloc: Global, editor: &mut Editor<S>, ids: &[&[u8]]) -> bool {
-    match written(alloc, editor) {
-        Ok(written) => has_emitted(alloc, &written, ids),
+/// Returns whether a write calls the closure for trees of these ids only, emits them, and counts `saved`
+/// unchanged directories.
+pub(crate) fn writes<S>(
+    alloc: Global,
+    editor: &mut Editor<S>,
+    saved: usize,
+    ids: &[&[u8]],
+) -> bool {
+    let mut calls = 0usize;
+    let out = |tree: &Tree| {
+        calls = calls.saturating_add(1);
+        tree.compute_id(alloc, HashKind::Sha1)
+    };
+    let is_reported = match editor.write(out) {
+        Ok(written) => has_emitted(alloc, &written, saved, ids),
         Err(_) => false,
-    }
+    };
+    is_reported && calls == ids.len()
 }
 
-/// Writes the directory of a cursor.
-pub(crate) fn written_by<S>(
+/// Returns whether a write by a cursor emits trees of these ids in this order, its written tree last, and
+/// counts `saved` unchanged directories.
+pub(crate) fn emits<S>(
     alloc: Global,
     cursor: &mut Cursor<'_, S>,
-) -> Result<Written, WriteError<encode::Error>> {
-    cursor.write(|tree: &Tree| tree.compute_id(alloc, HashKind::Sha1))
-}
-
-/// Returns whether a write by a cursor emits trees of these ids in this order, its written tree last.
-pub(crate) fn emits<S>(alloc: Global, cursor: &mut Cursor<'_, S>, ids: &[&[u8]]) -> bool {
-    match written_by(alloc, cursor) {
-        Ok(written) => has_emitted(alloc, &written, ids),
+    saved: usize,
+    ids: &[&[u8]],
+) -> bool {
+    match cursor.write(|tree: &Tree| tree.compute_id(alloc, HashKind::Sha1)) {
+        Ok(written) => has_emitted(alloc, &written, saved, ids),
         Err(_) => false,
     }
 }

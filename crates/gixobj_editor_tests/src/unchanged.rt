@@ -2,35 +2,15 @@
 //! entries and aren't emitted. Ids are those that `git mktree --missing` prints.
 
 use crate::samples::{
-    FILE, cursor_of, has_emitted, is_run, or_empty, over_a_directory, push_entry, stored_file,
-    tree_of, upserted, written_by,
+    FILE, NULL, cursor_of, emits, empty_editor, is_run, or_empty, stored_file, tree_of, upserted,
+    writes,
 };
 use gixobj_base::Tree;
 use gixobj_base::hash::{Kind as HashKind, ObjectId};
 use gixobj_base::tree::EntryKind;
-use gixobj_editor::editor::{Cursor, Editor, Written};
+use gixobj_editor::editor::Editor;
 use gixobj_keep::{Keep, Memory};
-use std::alloc::{AllocError, Global};
-
-/// Returns whether a write emitted trees of these ids, and counted `saved` unchanged directories.
-fn is_saved(alloc: Global, written: &Written, saved: usize, ids: &[&[u8]]) -> bool {
-    written.saved == saved && has_emitted(alloc, written, ids)
-}
-
-/// Returns whether a write calls the closure for trees of these ids only, emits them, and counts `saved`
-/// unchanged directories.
-pub(crate) fn saves<S>(alloc: Global, editor: &mut Editor<S>, saved: usize, ids: &[&[u8]]) -> bool {
-    let mut calls = 0usize;
-    let out = |tree: &Tree| {
-        calls = calls.saturating_add(1);
-        tree.compute_id(alloc, HashKind::Sha1)
-    };
-    let is_reported = match editor.write(out) {
-        Ok(written) => is_saved(alloc, &written, saved, ids),
-        Err(_) => false,
-    };
-    is_reported && calls == ids.len()
-}
+use std::alloc::Global;
 
 /// The id of the tree of the file `c`.
 const C: &[u8] = b"6d2d932c1fe444535ef3f0316634b59cfde9c945";
@@ -138,23 +118,14 @@ remove a/b/c/d
     },
 ];
 
-/// Returns whether a write by a cursor emits the expected trees, and counts the expected unchanged
-/// directories.
-fn saves_by(alloc: Global, cursor: &mut Cursor<'_, Memory>, wanted: Saved) -> bool {
-    match written_by(alloc, cursor) {
-        Ok(written) => is_saved(alloc, &written, wanted.0, wanted.1),
-        Err(_) => false,
-    }
-}
-
 /// Returns whether a write by a cursor at the directory `a` is the expected one, if any is expected.
-fn saves_at_a(alloc: Global, editor: &mut Editor<Memory>, wanted: Option<Saved>) -> bool {
-    let Some(wanted) = wanted else {
+fn is_written_at_a(alloc: Global, editor: &mut Editor<Memory>, wanted: Option<Saved>) -> bool {
+    let Some((saved, ids)) = wanted else {
         return true;
     };
     match cursor_of(alloc, editor, b"a") {
-        Some(mut cursor) => saves_by(alloc, &mut cursor, wanted),
-        None => false,
+        Ok(mut cursor) => emits(alloc, &mut cursor, saved, ids),
+        Err(_) => false,
     }
 }
 
@@ -162,8 +133,8 @@ fn saves_at_a(alloc: Global, editor: &mut Editor<Memory>, wanted: Option<Saved>)
 fn are_written(alloc: Global, row: &Row) -> bool {
     let mut editor = or_empty(alloc, stored_file(alloc, row.stored));
     is_run(alloc, &mut editor, row.script.as_bytes())
-        && saves_at_a(alloc, &mut editor, row.by_a_cursor)
-        && saves(alloc, &mut editor, row.by_the_editor.0, row.by_the_editor.1)
+        && is_written_at_a(alloc, &mut editor, row.by_a_cursor)
+        && writes(alloc, &mut editor, row.by_the_editor.0, row.by_the_editor.1)
 }
 
 #[test]
@@ -173,23 +144,8 @@ fn emits_no_unchanged_directory(rt: HostRuntime) {
     }
 }
 
-/// Returns whether a write emitted a tree of two files by the id of the tree of the file `c`, then the
-/// unchanged root. It counts one unchanged directory.
-fn is_as_it_was(written: &Written) -> bool {
-    let (inner, root) = (ObjectId::from_hex(C), ObjectId::from_hex(ROOT));
-    match written.trees.as_slice() {
-        [(first, tree), (last, _)] => {
-            tree.entries.len() == 2
-                && Some(*first) == inner
-                && Some(*last) == root
-                && written.saved == 1
-        }
-        _ => false,
-    }
-}
-
-/// Returns whether a write is that of [`is_as_it_was`] if trees of two entries get the id of the tree of the
-/// file `c`.
+/// Returns whether a write emits a tree of two files by the id of the tree of the file `c`, then the unchanged
+/// root, and counts one unchanged directory, if trees of two entries get that id.
 fn writes_by_an_old_id(alloc: Global, editor: &mut Editor<Memory>) -> bool {
     let Some(old) = ObjectId::from_hex(C) else {
         return false;
@@ -200,9 +156,17 @@ fn writes_by_an_old_id(alloc: Global, editor: &mut Editor<Memory>) -> bool {
         }
         tree.compute_id(alloc, HashKind::Sha1)
     };
-    match editor.write(out) {
-        Ok(written) => is_as_it_was(&written),
-        Err(_) => false,
+    let Ok(written) = editor.write(out) else {
+        return false;
+    };
+    match written.trees.as_slice() {
+        [(first, tree), (last, _)] => {
+            tree.entries.len() == 2
+                && *first == old
+                && Some(*last) == ObjectId::from_hex(ROOT)
+                && written.saved == 1
+        }
+        _ => false,
     }
 }
 
@@ -217,43 +181,38 @@ fn parent_is_unchanged_if_directory_gets_previous_id(rt: HostRuntime) {
 /// An id that isn't the digest of the tree that a store has by it.
 const NO_DIGEST: ObjectId = ObjectId::Sha1([5; 20]);
 
-/// Builds a tree of the file `b`, and of an entry `n` of the other id if there is one.
-fn b_and_another(alloc: Global, other: Option<ObjectId>) -> Result<Tree, AllocError> {
-    let mut tree = tree_of(alloc, EntryKind::Blob, b"b", FILE)?;
-    if let Some(oid) = other {
-        push_entry(alloc, &mut tree, EntryKind::Blob, b"n", oid)?;
-    }
-    Ok(tree)
+/// A script that inserts the directory `a` by the id [`NO_DIGEST`].
+const BY_NO_DIGEST: &[u8] = b"upsert tree 0505050505050505050505050505050505050505 a";
+
+/// Keeps a tree of these entries by the id [`NO_DIGEST`] as the directory `a`, and inserts its file `b` again.
+/// Returns whether the write after it emits these trees and counts `saved` directories.
+fn saves_the_same(
+    alloc: Global,
+    entries: &[(EntryKind, &[u8], ObjectId)],
+    saved: usize,
+    ids: &[&[u8]],
+) -> bool {
+    let mut editor = empty_editor(alloc);
+    let Ok(tree) = tree_of(alloc, entries) else {
+        return false;
+    };
+    editor.store_mut().keep(NO_DIGEST, &tree).is_ok()
+        && is_run(alloc, &mut editor, BY_NO_DIGEST)
+        && upserted(alloc, &mut editor, b"a b") == 0
+        && writes(alloc, &mut editor, saved, ids)
 }
 
-/// Keeps the tree of [`b_and_another`] in a store by the id [`NO_DIGEST`], and returns whether that succeeds.
-fn is_kept(alloc: Global, store: &mut Memory, other: Option<ObjectId>) -> bool {
-    match b_and_another(alloc, other) {
-        Ok(tree) => store.keep(NO_DIGEST, &tree).is_ok(),
-        Err(_) => false,
-    }
-}
+/// The tree of only the file `b`, and the tree that also has an entry of the null id.
+const B: &[(EntryKind, &[u8], ObjectId)] = &[(EntryKind::Blob, b"b", FILE)];
 
-/// Returns an editor whose root has only the directory `a`, by the id [`NO_DIGEST`] of the tree of
-/// [`b_and_another`].
-fn over_no_digest(alloc: Global, other: Option<ObjectId>) -> Option<Editor<Memory>> {
-    let mut store = Memory::new(alloc);
-    match is_kept(alloc, &mut store, other) {
-        true => over_a_directory(alloc, b"a", NO_DIGEST, store),
-        false => None,
-    }
-}
-
-/// Inserts the file `a/b`, which exists already; returns whether the write after it emits these trees and
-/// counts `saved` directories.
-fn saves_the_same(alloc: Global, other: Option<ObjectId>, saved: usize, ids: &[&[u8]]) -> bool {
-    let mut editor = or_empty(alloc, over_no_digest(alloc, other));
-    upserted(alloc, &mut editor, b"a b") == 0 && saves(alloc, &mut editor, saved, ids)
-}
+const B_AND_NULL: &[(EntryKind, &[u8], ObjectId)] = &[
+    (EntryKind::Blob, b"b", FILE),
+    (EntryKind::Blob, b"n", NULL),
+];
 
 /// The id of the root that has the directory by [`NO_DIGEST`], and the ids of the trees that are emitted for
 /// a changed directory.
-const BY_NO_DIGEST: &[u8] = b"035bbd9cefbc1db75d8da45646228e21988488fe";
+const ROOT_BY_NO_DIGEST: &[u8] = b"035bbd9cefbc1db75d8da45646228e21988488fe";
 
 const BY_DIGESTS: &[&[u8]] = &[
     b"ba0ec9c341e1d7e56243006b86ff39209e431800",
@@ -264,7 +223,6 @@ const BY_DIGESTS: &[&[u8]] = &[
 /// entry is never written.
 #[test]
 fn compares_trees_and_not_ids(rt: HostRuntime) {
-    let null = ObjectId::null(HashKind::Sha1);
-    assert!(rt; saves_the_same(rt.alloc(), None, 1, &[BY_NO_DIGEST]));
-    assert!(rt; saves_the_same(rt.alloc(), Some(null), 0, BY_DIGESTS));
+    assert!(rt; saves_the_same(rt.alloc(), B, 1, &[ROOT_BY_NO_DIGEST]));
+    assert!(rt; saves_the_same(rt.alloc(), B_AND_NULL, 0, BY_DIGESTS));
 }
