@@ -150,7 +150,7 @@ const ENTRIES: &[(&[u8], Got)] = &[
 
 /// Makes the call of a row by the editor, and returns whether it fails so.
 fn fails(alloc: Global, editor: &mut Editor<Faulty>, row: &Row) -> bool {
-    let &(edit, path, failure, _) = row;
+    let (edit, path, failure, _) = *row;
     let Ok(path) = path_of(alloc, path) else {
         return false;
     };
@@ -198,7 +198,7 @@ fn editor_is_unchanged_after_failed_edits(rt: HostRuntime) {
 
 /// Makes the call of a row by a cursor at the directory `d`, and returns whether it fails so.
 fn fails_by(alloc: Global, cursor: &mut Cursor<'_, Faulty>, row: &Row) -> bool {
-    let &(edit, path, failure, _) = row;
+    let (edit, path, failure, _) = *row;
     let Ok(path) = path_of(alloc, path.get(BELOW..).unwrap_or(&[])) else {
         return false;
     };

@@ -2,17 +2,15 @@
 
 mod allocation_failures;
 
-use crate::streams::{Row, USAGE, answers, answers_reader, ends_with};
-use gixobj_base_tests::limited::{Limited, Stepping};
-use std::alloc::Global;
+use crate::streams::{Row, USAGE, answers};
 
-const NESTED: &[u8] = b"upsert blob 83baae61804e65cc73a7201a7252750c76066a30 bak/test.txt
+pub(crate) const NESTED: &[u8] = b"upsert blob 83baae61804e65cc73a7201a7252750c76066a30 bak/test.txt
 upsert blob fa49b077972391ad58037050f2a75f74e3671e92 new.txt
 upsert blob 1f7a7a472abf3dd9643fd615f6da379c4acb3e3a test.txt
 write
 ";
 
-const NESTED_LINES: &[u8] = b"ok
+pub(crate) const NESTED_LINES: &[u8] = b"ok
 ok
 ok
 wrote 3c4e9cd789d88d8d89c1073707c3585e41b0e614 2
@@ -63,28 +61,14 @@ lookups 0
 ";
 
 /// The first script (`edit-nested`) inserts three files, one in a directory. The second (`edit-leaf`) fails to
-/// remove a directory as a leaf, and then removes it. The third edits before and after writes.
-const REPORTS: &[Row] = &[
+/// remove a directory as a leaf, and then removes it. The third edits before and after writes. The last runs have
+/// invalid arguments or input.
+const ROWS: &[Row] = &[
     ("edit", NESTED, (0, NESTED_LINES, b"")),
     ("edit", LEAF, (0, LEAF_LINES, b"")),
     ("edit", WRITES, (0, WRITES_LINES, b"")),
     ("edit", b"", (0, b"lookups 0\n", b"")),
     ("edit sha256", b"root\nwrite", (0, SHA256_LINES, b"")),
-    (
-        "show",
-        b"blob 6\0hello\n",
-        (0, b"blob 6 ce013625030ba8dba906f756967f9e9ca394464a\n", b""),
-    ),
-];
-
-#[test]
-fn prints_reports(rt: HostRuntime) {
-    for row in REPORTS {
-        assert!(rt; answers(rt.alloc(), row), "{row:?}");
-    }
-}
-
-const FAULTS: &[Row] = &[
     ("edit", b"write\nfoo", (1, b"", b"gixobj: line 2\n")),
     (
         "edit",
@@ -98,47 +82,8 @@ const FAULTS: &[Row] = &[
 ];
 
 #[test]
-fn rejects_invalid_arguments_and_input(rt: HostRuntime) {
-    for row in FAULTS {
+fn prints_reports_of_scripts(rt: HostRuntime) {
+    for row in ROWS {
         assert!(rt; answers(rt.alloc(), row), "{row:?}");
     }
-}
-
-/// Returns whether the program fails on a script whose reader yields single bytes and fails at the end.
-fn fails_at_input_error(alloc: Global) -> bool {
-    let mut input = Stepping {
-        rest: NESTED,
-        step: 1,
-        fails: true,
-    };
-    answers_reader(
-        alloc,
-        "edit",
-        &mut input,
-        (1, b"", b"gixobj: input failed\n"),
-    )
-}
-
-/// A script whose reader fails at the end isn't run.
-#[test]
-fn runs_no_command_if_input_fails(rt: HostRuntime) {
-    assert!(rt; fails_at_input_error(rt.alloc()));
-}
-
-/// Returns whether the output of a script fails in a writer that has room for `room` bytes, after it wrote
-/// `prefix`.
-fn fails_at_output(alloc: Global, room: usize, prefix: &[u8]) -> bool {
-    let mut narrow = Limited {
-        held: Vec::new(alloc),
-        room,
-    };
-    let mut rest = NESTED;
-    let outcome = (1, b"gixobj: output failed\n".as_slice());
-    ends_with(alloc, "edit", &mut rest, &mut narrow, outcome) && narrow.held.as_slice() == prefix
-}
-
-#[test]
-fn fails_if_output_fails(rt: HostRuntime) {
-    assert!(rt; fails_at_output(rt.alloc(), 0, b""));
-    assert!(rt; fails_at_output(rt.alloc(), 5, b"ok\nok"));
 }

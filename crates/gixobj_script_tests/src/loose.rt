@@ -2,11 +2,7 @@
 //! `git` wrote them.
 
 mod listings;
-mod printed;
 mod runs;
-
-/// A blob with the content of `hello.txt`.
-pub(crate) const HELLO: &[u8] = b"blob 6\x00hello\n";
 
 /// A tree of six entries: two files, a program, a symbolic link, a tree and a submodule.
 pub(crate) const TREE: &[u8] =
@@ -29,9 +25,6 @@ pub(crate) const TAG: &[u8] = b"tag 116\x00object 2b09c4737e7ae776810443d28ff15a
     tag v1.0\n\
     tagger A <a@b> 1700000000 +0000\n\
     \nThe first one\n";
-
-/// The blob [`HELLO`] in a repository of SHA-256.
-pub(crate) const HELLO_SHA256: &[u8] = b"blob 6\x00hello\n";
 
 /// The tree [`TREE`] in a repository of SHA-256.
 pub(crate) const TREE_SHA256: &[u8] =

@@ -4,7 +4,6 @@
 mod allocation_failures;
 mod entire_runs;
 mod error_halfway;
-mod many_edits;
 mod not_stored;
 mod replies;
 mod samples;

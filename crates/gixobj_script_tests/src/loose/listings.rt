@@ -4,7 +4,6 @@
 
 use super::{ONE_ENTRY, TREE, TREE_SHA256};
 use crate::streams::{Row, answers};
-use std::alloc::Global;
 
 const LISTED: &[u8] = b"\
 100644 blob 1c0faac18742a237bcae8565123acd6705d2024d docs.txt
@@ -26,67 +25,6 @@ const LISTED_SHA256: &[u8] = b"\
 
 const ONE_LINE: &[u8] = b"100644 blob 83baae61804e65cc73a7201a7252750c76066a30 test.txt\n";
 
-/// Arguments, trees and their listings.
-const TREES: &[(&str, &[u8], &[u8])] = &[
-    (
-        "tree",
-        b"tree 36\x00100644 test.txt\x00\x83\xba\xaea\x80Ne\xccs\xa7 \x1arRu\x0cv\x06j0and more",
-        ONE_LINE,
-    ),
-    ("tree", TREE, LISTED),
-    ("tree sha256", TREE_SHA256, LISTED_SHA256),
-    ("tree", b"tree 0\0", b""),
-    ("tree sha256", b"tree 0\0and more", b""),
-    // names, unchanged
-    (
-        "tree",
-        b"tree 37\x00100644 two\nlines\x00\x83\xba\xaea\x80Ne\xccs\xa7 \x1arRu\x0cv\x06j0",
-        b"100644 blob 83baae61804e65cc73a7201a7252750c76066a30 two\nlines\n",
-    ),
-    (
-        "tree",
-        b"tree 32\x00100644 a \xff\t\x00\x83\xba\xaea\x80Ne\xccs\xa7 \x1arRu\x0cv\x06j0",
-        b"100644 blob 83baae61804e65cc73a7201a7252750c76066a30 a \xff\t\n",
-    ),
-    // modes, as they are encoded
-    (
-        "tree",
-        b"tree 29\x00040000 a\x00\x83\xba\xaea\x80Ne\xccs\xa7 \x1arRu\x0cv\x06j0",
-        b"040000 tree 83baae61804e65cc73a7201a7252750c76066a30 a\n",
-    ),
-    (
-        "tree",
-        b"tree 29\x00100664 a\x00\x83\xba\xaea\x80Ne\xccs\xa7 \x1arRu\x0cv\x06j0",
-        b"100664 blob 83baae61804e65cc73a7201a7252750c76066a30 a\n",
-    ),
-    (
-        "tree",
-        b"tree 29\x00100700 a\x00\x83\xba\xaea\x80Ne\xccs\xa7 \x1arRu\x0cv\x06j0",
-        b"100700 exe 83baae61804e65cc73a7201a7252750c76066a30 a\n",
-    ),
-];
-
-/// Returns whether the program writes this listing of a tree.
-fn lists(alloc: Global, line: &'static str, tree: &'static [u8], listing: &'static [u8]) -> bool {
-    answers(alloc, &(line, tree, (0, listing, b"")))
-}
-
-#[test]
-fn lists_trees(rt: HostRuntime) {
-    for &(line, tree, listing) in TREES {
-        assert!(rt; lists(rt.alloc(), line, tree, listing), "{line} {tree:?}");
-    }
-}
-
-/// The line that `show` prints for the tree of one entry.
-const SHOWN: &[u8] = b"tree 36 d8329fc1cc938780ffdd9f94e0d364e0ea74f579\n";
-
-#[test]
-fn tree_listing(rt: HostRuntime) {
-    assert!(rt; lists(rt.alloc(), "tree", ONE_ENTRY, ONE_LINE));
-    assert!(rt; answers(rt.alloc(), &("show", ONE_ENTRY, (0, SHOWN, b""))));
-}
-
 const BAD_HEADER: &[u8] = b"gixobj: bad header\n";
 
 const SHORT_DATA: &[u8] = b"gixobj: short data\n";
@@ -95,8 +33,64 @@ const NOT_A_TREE: &[u8] = b"gixobj: not a tree\n";
 
 const BAD_TREE: &[u8] = b"gixobj: bad tree\n";
 
-/// Inputs of which only the first fault is reported.
-const FAULTS: &[Row] = &[
+/// Trees and their listings, and inputs of which only the first fault is reported.
+const ROWS: &[Row] = &[
+    (
+        "tree",
+        b"tree 36\x00100644 test.txt\x00\x83\xba\xaea\x80Ne\xccs\xa7 \x1arRu\x0cv\x06j0and more",
+        (0, ONE_LINE, b""),
+    ),
+    ("tree", TREE, (0, LISTED, b"")),
+    ("tree sha256", TREE_SHA256, (0, LISTED_SHA256, b"")),
+    ("tree", b"tree 0\0", (0, b"", b"")),
+    ("tree sha256", b"tree 0\0and more", (0, b"", b"")),
+    // names, unchanged
+    (
+        "tree",
+        b"tree 37\x00100644 two\nlines\x00\x83\xba\xaea\x80Ne\xccs\xa7 \x1arRu\x0cv\x06j0",
+        (
+            0,
+            b"100644 blob 83baae61804e65cc73a7201a7252750c76066a30 two\nlines\n",
+            b"",
+        ),
+    ),
+    (
+        "tree",
+        b"tree 32\x00100644 a \xff\t\x00\x83\xba\xaea\x80Ne\xccs\xa7 \x1arRu\x0cv\x06j0",
+        (
+            0,
+            b"100644 blob 83baae61804e65cc73a7201a7252750c76066a30 a \xff\t\n",
+            b"",
+        ),
+    ),
+    // modes, as they are encoded
+    (
+        "tree",
+        b"tree 29\x00040000 a\x00\x83\xba\xaea\x80Ne\xccs\xa7 \x1arRu\x0cv\x06j0",
+        (
+            0,
+            b"040000 tree 83baae61804e65cc73a7201a7252750c76066a30 a\n",
+            b"",
+        ),
+    ),
+    (
+        "tree",
+        b"tree 29\x00100664 a\x00\x83\xba\xaea\x80Ne\xccs\xa7 \x1arRu\x0cv\x06j0",
+        (
+            0,
+            b"100664 blob 83baae61804e65cc73a7201a7252750c76066a30 a\n",
+            b"",
+        ),
+    ),
+    (
+        "tree",
+        b"tree 29\x00100700 a\x00\x83\xba\xaea\x80Ne\xccs\xa7 \x1arRu\x0cv\x06j0",
+        (
+            0,
+            b"100700 exe 83baae61804e65cc73a7201a7252750c76066a30 a\n",
+            b"",
+        ),
+    ),
     ("tree", b"", (1, b"", BAD_HEADER)),
     ("tree", b"tree 0", (1, b"", BAD_HEADER)),
     ("tree", b"tree x\x00", (1, b"", BAD_HEADER)),
@@ -141,8 +135,17 @@ const FAULTS: &[Row] = &[
 ];
 
 #[test]
-fn reports_first_fault(rt: HostRuntime) {
-    for row in FAULTS {
+fn lists_trees_and_reports_first_fault(rt: HostRuntime) {
+    for row in ROWS {
         assert!(rt; answers(rt.alloc(), row), "{row:?}");
     }
+}
+
+/// The line that `show` prints for the tree of one entry.
+const SHOWN: &[u8] = b"tree 36 d8329fc1cc938780ffdd9f94e0d364e0ea74f579\n";
+
+#[test]
+fn tree_listing(rt: HostRuntime) {
+    assert!(rt; answers(rt.alloc(), &("tree", ONE_ENTRY, (0, ONE_LINE, b""))));
+    assert!(rt; answers(rt.alloc(), &("show", ONE_ENTRY, (0, SHOWN, b""))));
 }

@@ -1,6 +1,7 @@
 //! Runs of the entire program over readers and writers in memory that may fail.
 
-use super::ONE_ENTRY;
+use super::{COMMIT, COMMIT_SHA256, ONE_ENTRY, TAG, TAG_SHA256, TREE, TREE_SHA256};
+use crate::engine::{NESTED, NESTED_LINES};
 use crate::streams::{
     Expected, Row, USAGE, answers, answers_reader, arguments_in, ends_with, status_of,
 };
@@ -8,7 +9,7 @@ use gixobj_base_tests::limited::{Limited, Stepping};
 use gixobj_show::engine::run;
 use std::alloc::Global;
 use std::io;
-use std::io::{ErrorKind, Read, Write};
+use std::io::{ErrorKind, Read};
 
 /// A reader that is interrupted once before each byte.
 #[derive(Drop)]
@@ -28,20 +29,6 @@ impl Read for Interrupted<'_> {
         buf[..count].copy_from_slice(prefix);
         self.rest = rest;
         Ok(count)
-    }
-}
-
-/// A writer without room.
-#[derive(Drop)]
-struct Full;
-
-impl Write for Full {
-    fn write(&mut self, _buf: &[u8]) -> io::Result<usize> {
-        Err(io::Error::from(ErrorKind::StorageFull))
-    }
-
-    fn flush(&mut self) -> io::Result<()> {
-        Ok(())
     }
 }
 
@@ -70,6 +57,71 @@ fn show_hello(rt: HostRuntime) {
 const SHOWN: &[Row] = &[
     ("show", b"blob 6\0hello\nand more", (0, HELLO, b"")),
     ("show sha256", b"blob 6\0hello\n", (0, HELLO_SHA256, b"")),
+    // what git prints for the objects of the folder examples/
+    (
+        "show",
+        TREE,
+        (
+            0,
+            b"tree 204 932696bf4fc5904284abc872dd6ae7421b4e9e19\n",
+            b"",
+        ),
+    ),
+    (
+        "show",
+        ONE_ENTRY,
+        (
+            0,
+            b"tree 36 d8329fc1cc938780ffdd9f94e0d364e0ea74f579\n",
+            b"",
+        ),
+    ),
+    (
+        "show",
+        COMMIT,
+        (
+            0,
+            b"commit 124 2b09c4737e7ae776810443d28ff15aaacfd1bfbf\n",
+            b"",
+        ),
+    ),
+    (
+        "show",
+        TAG,
+        (
+            0,
+            b"tag 116 0009ef8aeac91308dee7c2d17f4718361fae5abf\n",
+            b"",
+        ),
+    ),
+    (
+        "show sha256",
+        TREE_SHA256,
+        (
+            0,
+            b"tree 276 b50197883fb00da94cd610867bae1cb42a03a69c9058b0c225a8eeec98c95ba0\n",
+            b"",
+        ),
+    ),
+    (
+        "show sha256",
+        COMMIT_SHA256,
+        (
+            0,
+            b"commit 148 e4aa6687cfcffe18739323f0e6717f02235e94bc9eb7a83ac0b46a510819fb5d\n",
+            b"",
+        ),
+    ),
+    (
+        "show sha256",
+        TAG_SHA256,
+        (
+            0,
+            b"tag 140 da49275eeb470f018e41d0d56c9dc7e1c9e996f08b0093a2b2daf1d3e11d3148\n",
+            b"",
+        ),
+    ),
+    // sizes, faults and arguments
     (
         "show",
         b"blob +0\0",
@@ -112,6 +164,7 @@ const READ: &[Row] = &[
     ("tree", ONE_ENTRY, (0, LINE, b"")),
     ("tree", b"tree", (1, b"", BAD_HEADER)),
     ("tree", b"tree 6\0hello\n", (1, b"", BAD_TREE)),
+    ("edit", NESTED, (0, NESTED_LINES, b"")),
 ];
 
 /// Returns whether the program has this result for the input of a row if the reader yields at most `step`
@@ -131,35 +184,12 @@ fn answers_in_steps(
     answers_reader(alloc, row.0, &mut reader, expected)
 }
 
-/// Returns whether the program has the result of a row for a reader that yields at most 1, 5 or 4,096 bytes in
-/// each call.
-fn is_read_in_steps(alloc: Global, row: &Row) -> bool {
-    answers_in_steps(alloc, row, 1, false, row.2)
-        && answers_in_steps(alloc, row, 5, false, row.2)
-        && answers_in_steps(alloc, row, 4096, false, row.2)
-}
-
-#[test]
-fn reads_in_steps(rt: HostRuntime) {
-    for row in READ {
-        assert!(rt; is_read_in_steps(rt.alloc(), row), "{row:?}");
-    }
-}
-
-/// Returns whether the program fails for a reader that yields at most 1, 5 or 4,096 bytes in each call, and
-/// fails at the end.
-fn is_read_failure(alloc: Global, row: &Row) -> bool {
+/// Returns whether the program has the result of a row for a reader that yields at most `step` bytes in each
+/// call, and fails, without any output, if that reader fails at the end.
+fn is_read_in_steps(alloc: Global, row: &Row, step: usize) -> bool {
     let failed: Expected = (1, b"", b"gixobj: input failed\n");
-    answers_in_steps(alloc, row, 1, true, failed)
-        && answers_in_steps(alloc, row, 5, true, failed)
-        && answers_in_steps(alloc, row, 4096, true, failed)
-}
-
-#[test]
-fn fails_if_reader_fails(rt: HostRuntime) {
-    for row in READ {
-        assert!(rt; is_read_failure(rt.alloc(), row), "{row:?}");
-    }
+    answers_in_steps(alloc, row, step, false, row.2)
+        && answers_in_steps(alloc, row, step, true, failed)
 }
 
 /// Returns whether the program has the result of a row if the reader is interrupted before each byte.
@@ -172,14 +202,12 @@ fn answers_interrupted(alloc: Global, row: &Row) -> bool {
 }
 
 #[test]
-fn reads_on_after_interruptions(rt: HostRuntime) {
+fn reads_in_steps_and_after_interruptions(rt: HostRuntime) {
     for row in READ {
-        assert!(rt;
-            answers_interrupted(rt.alloc(), row),
-            "{} {:?}",
-            row.0,
-            row.1
-        );
+        assert!(rt; is_read_in_steps(rt.alloc(), row, 1), "{row:?}");
+        assert!(rt; is_read_in_steps(rt.alloc(), row, 5), "{row:?}");
+        assert!(rt; is_read_in_steps(rt.alloc(), row, 4096), "{row:?}");
+        assert!(rt; answers_interrupted(rt.alloc(), row), "{row:?}");
     }
 }
 
@@ -190,89 +218,97 @@ const UNWRITTEN: &[Row] = &[
     ("tree", ONE_ENTRY, (1, b"", OUTPUT_FAILED)),
     ("tree", b"tree 6\0hello\n", (1, b"", BAD_TREE)),
     ("tree", b"tree 0\0", (0, b"", b"")),
+    ("edit", NESTED, (1, b"", OUTPUT_FAILED)),
     ("", b"", (2, b"", USAGE)),
 ];
 
-/// Returns whether the program has the result of a row if each write to standard output fails.
-fn is_unwritten(alloc: Global, row: &Row) -> bool {
-    let mut object = row.1;
-    ends_with(alloc, row.0, &mut object, &mut Full, (row.2.0, row.2.2))
+/// Returns a writer that has room for `room` bytes.
+fn narrow_writer(alloc: Global, room: usize) -> Limited {
+    let held = Vec::new(alloc);
+    Limited { held, room }
 }
 
-/// Returns whether the program ends with the status of a row if each write to both outputs fails.
-fn is_unreported(alloc: Global, row: &Row) -> bool {
-    let mut object = row.1;
-    status_of(alloc, row.0, &mut object, &mut Full, &mut Full) == Some(row.2.0)
+/// Returns whether the program has the result of a row if each write to standard output fails, and ends with its
+/// status if each write to both outputs fails.
+fn ends_if_unwritten(alloc: Global, row: &Row) -> bool {
+    let mut first = row.1;
+    let mut second = row.1;
+    let mut output = narrow_writer(alloc, 0);
+    let mut errors = narrow_writer(alloc, 0);
+    ends_with(alloc, row.0, &mut first, &mut output, (row.2.0, row.2.2))
+        && status_of(alloc, row.0, &mut second, &mut output, &mut errors) == Some(row.2.0)
 }
 
 #[test]
 fn ends_with_status_if_writers_fail(rt: HostRuntime) {
     for row in UNWRITTEN {
-        assert!(rt; is_unwritten(rt.alloc(), row), "{row:?}");
-        assert!(rt; is_unreported(rt.alloc(), row), "{row:?}");
+        assert!(rt; ends_if_unwritten(rt.alloc(), row), "{row:?}");
     }
 }
 
+/// Arguments, input and output, and how many bytes of the output a writer has room for.
+const NARROW: &[(&str, &[u8], &[u8], usize)] = &[
+    ("tree", ONE_ENTRY, LINE, 1),
+    ("tree", ONE_ENTRY, LINE, 12),
+    ("tree", ONE_ENTRY, LINE, 61),
+    ("edit", NESTED, NESTED_LINES, 5),
+];
+
 /// Returns whether the program fails in the middle of a line, after it wrote as many bytes as the writer has
 /// room for.
-fn fails_in_mid_line(alloc: Global, room: usize) -> bool {
-    let mut object = ONE_ENTRY;
-    let mut narrow = Limited {
-        held: Vec::new(alloc),
-        room,
-    };
-    ends_with(alloc, "tree", &mut object, &mut narrow, (1, OUTPUT_FAILED))
-        && LINE.starts_with(narrow.held.as_slice())
+fn fails_in_mid_line(alloc: Global, line: &str, input: &[u8], output: &[u8], room: usize) -> bool {
+    let mut rest = input;
+    let mut narrow = narrow_writer(alloc, room);
+    ends_with(alloc, line, &mut rest, &mut narrow, (1, OUTPUT_FAILED))
+        && output.starts_with(narrow.held.as_slice())
         && narrow.held.len() == room
 }
 
 #[test]
 fn fails_if_writer_fails_in_mid_line(rt: HostRuntime) {
-    assert!(rt; fails_in_mid_line(rt.alloc(), 1));
-    assert!(rt; fails_in_mid_line(rt.alloc(), 12));
-    assert!(rt; fails_in_mid_line(rt.alloc(), 61));
-}
-
-/// Runs the program with only `show` by the arguments in a line. Returns the exit status, or `None` if the
-/// arguments can't be allocated.
-fn status_alone(
-    alloc: Global,
-    line: &str,
-    input: &mut &[u8],
-    output: &mut Vec<u8>,
-    errors: &mut Vec<u8>,
-) -> Option<u8> {
-    match arguments_in(alloc, line) {
-        Ok(arguments) => Some(run(alloc, arguments.as_slice(), input, output, errors)),
-        Err(_) => None,
-    }
-}
-
-/// Returns whether the program with only `show` has this result for an input, of which it leaves `rest`.
-fn answers_alone(alloc: Global, line: &str, input: &[u8], expected: Expected, rest: &[u8]) -> bool {
-    let mut object = input;
-    let mut output = Vec::new(alloc);
-    let mut errors = Vec::new(alloc);
-    status_alone(alloc, line, &mut object, &mut output, &mut errors) == Some(expected.0)
-        && output.as_slice() == expected.1
-        && errors.as_slice() == expected.2
-        && object == rest
-}
-
-/// For other arguments nothing is read.
-#[test]
-fn show_alone_rejects_other_arguments(rt: HostRuntime) {
-    let rejected: Expected = (2, b"", USAGE);
-    for line in ["tree", "tree sha256", "edit", "show sha1", ""] {
+    for &(line, input, output, room) in NARROW {
         assert!(rt;
-            answers_alone(rt.alloc(), line, ONE_ENTRY, rejected, ONE_ENTRY),
-            "{line}"
+            fails_in_mid_line(rt.alloc(), line, input, output, room),
+            "{line} {room}"
         );
     }
 }
 
+/// Runs of the program with only `show`, and how many bytes of the input each leaves. For other arguments nothing
+/// is read.
+const ALONE: &[(Row, usize)] = &[
+    (("show", b"blob 6\0hello\n", (0, HELLO, b"")), 0),
+    (("tree", ONE_ENTRY, (2, b"", USAGE)), 44),
+    (("tree sha256", ONE_ENTRY, (2, b"", USAGE)), 44),
+    (("edit", ONE_ENTRY, (2, b"", USAGE)), 44),
+    (("show sha1", ONE_ENTRY, (2, b"", USAGE)), 44),
+    (("", ONE_ENTRY, (2, b"", USAGE)), 44),
+];
+
+/// Returns whether the program with only `show` has the result of a row, and leaves `remaining` bytes of the input.
+fn answers_alone(alloc: Global, row: &Row, remaining: usize) -> bool {
+    let (status, output, error) = row.2;
+    let mut rest = row.1;
+    let mut written = Vec::new(alloc);
+    let mut errors = Vec::new(alloc);
+    let Ok(arguments) = arguments_in(alloc, row.0) else {
+        return false;
+    };
+    run(
+        alloc,
+        arguments.as_slice(),
+        &mut rest,
+        &mut written,
+        &mut errors,
+    ) == status
+        && written.as_slice() == output
+        && errors.as_slice() == error
+        && rest.len() == remaining
+}
+
 #[test]
-fn show_alone_prints_line_of_object(rt: HostRuntime) {
-    let shown: Expected = (0, HELLO, b"");
-    assert!(rt; answers_alone(rt.alloc(), "show", b"blob 6\0hello\n", shown, b""));
+fn show_alone_prints_line_or_reads_nothing(rt: HostRuntime) {
+    for (row, remaining) in ALONE {
+        assert!(rt; answers_alone(rt.alloc(), row, *remaining), "{row:?}");
+    }
 }

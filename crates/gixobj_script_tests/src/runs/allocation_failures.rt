@@ -60,47 +60,41 @@ pub(crate) enum Outcome {
     Other,
 }
 
-/// Returns whether a tree has no id only because an allocation failed.
-fn is_for_memory(error: &encode::Error) -> bool {
-    matches!(error, encode::Error::Writer(_) | encode::Error::OutOfMemory)
-}
-
-/// Returns whether a reply is that with ample memory.
-pub(crate) fn is_ample(reply: &EditReply<encode::Error>, ample: Ample) -> bool {
-    match (reply, ample) {
-        (EditReply::Done, Ample::Done) => true,
-        (EditReply::Written(written), Ample::Wrote(id, count)) => has_id_and_count(
-            written, id, count,
-        ),
-        (EditReply::Refused(Error::EmptyPathComponent), Ample::EmptyName) => true,
-        _ => false,
-    }
-}
-
-/// Returns whether a command failed in an allocation before anything was emitted or changed.
-fn is_out_of_memory(reply: &EditReply<encode::Error>) -> bool {
+/// Returns the reply to the one edit or write of a command.
+pub(crate) fn edit_reply(reply: &Reply<encode::Error>) -> Option<&EditReply<encode::Error>> {
     match reply {
-        EditReply::Refused(Error::OutOfMemory) => true,
-        EditReply::WriteRefused(WriteError::OutOfMemory) => true,
-        EditReply::WriteRefused(WriteError::Out(error)) => is_for_memory(error),
-        _ => false,
+        Reply::Edit(reply) => Some(reply),
+        Reply::At(replies) => match replies.as_slice() {
+            [reply] => Some(reply),
+            _ => None,
+        },
+        _ => None,
     }
 }
 
-/// Classifies a reply other than one on trees that were emitted and not all kept.
-pub(crate) fn outcome_of(reply: &EditReply<encode::Error>, ample: Ample) -> Outcome {
-    if is_out_of_memory(reply) {
-        return Outcome::OutOfMemory;
-    }
-    ample_or_other(is_ample(reply, ample))
-}
-
-/// Returns `Ample` or `Other`.
-fn ample_or_other(is_ample: bool) -> Outcome {
-    if is_ample {
-        Outcome::Ample
-    } else {
-        Outcome::Other
+/// Classifies a reply other than one on trees that were emitted and not all kept. An edit in a directory counts as
+/// its command.
+pub(crate) fn outcome_of(reply: &Reply<encode::Error>, ample: Ample) -> Outcome {
+    match (reply, edit_reply(reply), ample) {
+        (Reply::AtRefused(Error::OutOfMemory), _, _) => Outcome::OutOfMemory,
+        (_, Some(EditReply::Done), Ample::Done) => Outcome::Ample,
+        (_, Some(EditReply::Written(written)), Ample::Wrote(id, count))
+            if has_id_and_count(written, id, count) => Outcome::Ample,
+        (_, Some(EditReply::Refused(Error::EmptyPathComponent)), Ample::EmptyName) => {
+            Outcome::Ample
+        }
+        (_, Some(EditReply::Refused(Error::OutOfMemory)), _) => Outcome::OutOfMemory,
+        (_, Some(EditReply::WriteRefused(WriteError::OutOfMemory)), _) => Outcome::OutOfMemory,
+        (
+            _,
+            Some(
+                EditReply::WriteRefused(
+                    WriteError::Out(encode::Error::Writer(_) | encode::Error::OutOfMemory),
+                ),
+            ),
+            _,
+        ) => Outcome::OutOfMemory,
+        _ => Outcome::Other,
     }
 }
 
@@ -114,79 +108,38 @@ fn keeps_the_rest(store: &mut Failing, written: &Written, count: usize) -> bool 
     true
 }
 
-/// Classifies a write whose trees were emitted and, for lack of memory, not all kept: the caller has the rest
+/// Classifies the reply to one command. If trees were emitted and, for lack of memory, not all kept, the rest is
 /// kept.
-fn unkept_outcome(
-    editor: &mut Editor<Failing>,
-    written: &Written,
-    count: usize,
-    ample: Ample,
-) -> Outcome {
-    match ample {
-        Ample::Wrote(id, wanted) => ample_or_other(
-            has_id_and_count(written, id, wanted)
-                && keeps_the_rest(editor.store_mut(), written, count),
-        ),
-        _ => Outcome::Other,
-    }
-}
-
-/// Returns the reply to the one edit or write of a command.
-pub(crate) fn edit_reply(reply: &Reply<encode::Error>) -> Option<&EditReply<encode::Error>> {
-    match reply {
-        Reply::Edit(reply) => Some(reply),
-        Reply::At(replies) => match replies.as_slice() {
-            [reply] => Some(reply),
-            _ => None,
-        },
-        _ => None,
-    }
-}
-
-/// Classifies the reply to one edit or write.
-fn edit_outcome(
-    editor: &mut Editor<Failing>,
-    reply: &EditReply<encode::Error>,
-    ample: Ample,
-) -> Outcome {
-    match reply {
-        EditReply::NotKept(written, count, KeepError::OutOfMemory) => {
-            unkept_outcome(editor, written, *count, ample)
-        }
-        reply => outcome_of(reply, ample),
-    }
-}
-
-/// Classifies the reply to one command.
 fn command_outcome(
     editor: &mut Editor<Failing>,
     reply: &Reply<encode::Error>,
     ample: Ample,
 ) -> Outcome {
-    match (reply, edit_reply(reply)) {
-        (Reply::AtRefused(Error::OutOfMemory), _) => Outcome::OutOfMemory,
-        (_, Some(reply)) => edit_outcome(editor, reply, ample),
-        _ => Outcome::Other,
-    }
-}
-
-/// Classifies the replies to one command.
-fn outcome_of_one(
-    editor: &mut Editor<Failing>,
-    replies: &[Reply<encode::Error>],
-    ample: Ample,
-) -> Outcome {
-    match replies {
-        [reply] => command_outcome(editor, reply, ample),
-        _ => Outcome::Other,
+    match (edit_reply(reply), ample) {
+        (
+            Some(EditReply::NotKept(written, count, KeepError::OutOfMemory)),
+            Ample::Wrote(id, wanted),
+        ) => {
+            let is_kept = has_id_and_count(written, id, wanted)
+                && keeps_the_rest(editor.store_mut(), written, *count);
+            if is_kept {
+                Outcome::Ample
+            } else {
+                Outcome::Other
+            }
+        }
+        _ => outcome_of(reply, ample),
     }
 }
 
 /// Runs the command of a line alone, and classifies its reply.
 fn line_outcome(alloc: Global, editor: &mut Editor<Failing>, line: &str, ample: Ample) -> Outcome {
-    match replies_to(alloc, editor, line) {
-        Some(replies) => outcome_of_one(editor, replies.as_slice(), ample),
-        None => Outcome::OutOfMemory,
+    let Some(replies) = replies_to(alloc, editor, line) else {
+        return Outcome::OutOfMemory;
+    };
+    match replies.as_slice() {
+        [reply] => command_outcome(editor, reply, ample),
+        _ => Outcome::Other,
     }
 }
 
@@ -200,25 +153,13 @@ fn gets(alloc: Global, editor: &mut Editor<Failing>, line: &str, ample: Ample) -
     }
 }
 
-/// Returns whether each command has its reply.
-fn each_gets(alloc: Global, editor: &mut Editor<Failing>) -> bool {
-    for (line, ample) in TEN_LINES.lines().zip(ample_replies()) {
-        if !gets(alloc, editor, line, *ample) {
-            return false;
-        }
-    }
-    true
-}
-
-/// Returns whether the editor counts the lookups of the store: two, or three if one was repeated.
-fn is_counted(editor: &mut Editor<Failing>) -> bool {
-    let lookups = editor.lookups();
-    lookups == editor.store_mut().lookups() && (2..4).contains(&lookups)
-}
-
+/// The editor counts the lookups of the store: two, or three if one was repeated.
 #[test]
 fn runs_each_command_whatever_allocation_fails(rt: HostRuntime) {
     let mut editor = editor_over(rt.alloc(), &[], &[]);
-    assert!(rt; each_gets(rt.alloc(), &mut editor));
-    assert!(rt; is_counted(&mut editor));
+    for (line, ample) in TEN_LINES.lines().zip(ample_replies()) {
+        assert!(rt; gets(rt.alloc(), &mut editor, line, *ample), "{line}");
+    }
+    let lookups = editor.lookups();
+    assert!(rt; lookups == editor.store_mut().lookups() && (2..4).contains(&lookups));
 }

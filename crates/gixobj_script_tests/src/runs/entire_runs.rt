@@ -23,21 +23,15 @@ enum Effect {
     WriteFailed,
 }
 
-fn edit_effect(reply: &EditReply<encode::Error>) -> Effect {
-    match reply {
-        EditReply::Done => Effect::Done,
-        EditReply::Refused(error) => Effect::Failed(number_of(error)),
-        EditReply::Written(written) => Effect::Wrote(written.id),
-        EditReply::NotKept(written, _, _) => Effect::Wrote(written.id),
-        EditReply::WriteRefused(_) => Effect::WriteFailed,
-    }
-}
-
 /// Returns what the command of a reply did.
 fn effect_of(reply: &Reply<encode::Error>) -> Option<Effect> {
     match (reply, edit_reply(reply)) {
         (Reply::AtRefused(error), _) => Some(Effect::Failed(number_of(error))),
-        (_, Some(reply)) => Some(edit_effect(reply)),
+        (_, Some(EditReply::Done)) => Some(Effect::Done),
+        (_, Some(EditReply::Refused(error))) => Some(Effect::Failed(number_of(error))),
+        (_, Some(EditReply::Written(written))) => Some(Effect::Wrote(written.id)),
+        (_, Some(EditReply::NotKept(written, _, _))) => Some(Effect::Wrote(written.id)),
+        (_, Some(EditReply::WriteRefused(_))) => Some(Effect::WriteFailed),
         _ => None,
     }
 }
@@ -53,24 +47,6 @@ enum Stop {
     Other,
 }
 
-/// Classifies the reply to a command; an edit in a directory counts as its command.
-fn outcome_of_command(reply: &Reply<encode::Error>, ample: Ample) -> Outcome {
-    match (reply, edit_reply(reply)) {
-        (Reply::AtRefused(Error::OutOfMemory), _) => Outcome::OutOfMemory,
-        (_, Some(reply)) => outcome_of(reply, ample),
-        _ => Outcome::Other,
-    }
-}
-
-/// Returns the number of kept trees, if the reply to the command is that not all were kept for lack of
-/// memory.
-fn kept_in_part(reply: &Reply<encode::Error>) -> Option<usize> {
-    match edit_reply(reply) {
-        Some(EditReply::NotKept(_, count, KeepError::OutOfMemory)) => Some(*count),
-        _ => None,
-    }
-}
-
 /// Returns how many trees the writes before the command of this number emit.
 fn trees_before(number: usize) -> usize {
     let mut count = 0usize;
@@ -84,10 +60,10 @@ fn trees_before(number: usize) -> usize {
 
 /// Returns how a run stops at the command of this number, if its reply isn't the one with ample memory.
 fn stop_at(number: usize, reply: &Reply<encode::Error>, ample: Ample) -> Option<Stop> {
-    if let Some(count) = kept_in_part(reply) {
-        return Some(Stop::Keep(trees_before(number).saturating_add(count)));
+    if let Some(EditReply::NotKept(_, count, KeepError::OutOfMemory)) = edit_reply(reply) {
+        return Some(Stop::Keep(trees_before(number).saturating_add(*count)));
     }
-    match outcome_of_command(reply, ample) {
+    match outcome_of(reply, ample) {
         Outcome::Ample => None,
         Outcome::OutOfMemory => Some(Stop::Command(number)),
         Outcome::Other => Some(Stop::Other),
@@ -104,39 +80,16 @@ fn first_stop(replies: &[Reply<encode::Error>]) -> Option<Stop> {
     None
 }
 
-/// Appends a line to a script.
-fn push_line(script: &mut String, line: &str) -> Result<(), AllocError> {
-    script.push_str(line)?;
-    script.push('\n')
-}
-
 /// Returns the lines of the script without the one of this number.
 fn script_without(alloc: Global, omitted: usize) -> Result<String, AllocError> {
     let mut script = String::new(alloc);
     for (number, line) in TEN_LINES.lines().enumerate() {
         if number != omitted {
-            push_line(&mut script, line)?;
+            script.push_str(line)?;
+            script.push('\n')?;
         }
     }
     Ok(script)
-}
-
-/// Returns the replies to a script on the empty root, over a store that fails in some calls of `keep`.
-fn replies_anew(
-    alloc: Global,
-    script: &str,
-    keeps_that_fail: &'static [u64],
-) -> Option<Vec<Reply<encode::Error>>> {
-    let mut editor = editor_over(alloc, &[], keeps_that_fail);
-    replies_to(alloc, &mut editor, script)
-}
-
-/// Returns whether there is a reply, and its command did the same as that of another.
-fn has_same_effect(reply: Option<&Reply<encode::Error>>, other: &Reply<encode::Error>) -> bool {
-    match (reply, effect_of(other)) {
-        (Some(reply), Some(effect)) => effect_of(reply) == Some(effect),
-        _ => false,
-    }
 }
 
 /// Returns whether the commands of two runs did the same. The second run lacks the command of this number.
@@ -147,69 +100,68 @@ fn have_same_effects(
 ) -> bool {
     let mut others = others.iter();
     for (number, reply) in replies.iter().enumerate() {
-        if number != omitted && !has_same_effect(others.next(), reply) {
-            return false;
+        if number != omitted {
+            let (Some(other), Some(effect)) = (others.next(), effect_of(reply)) else {
+                return false;
+            };
+            if effect_of(other) != Some(effect) {
+                return false;
+            }
         }
     }
     others.next().is_none()
 }
 
-/// Returns whether the replies are those to the script without the command of this number.
-fn follow_without(alloc: Global, replies: &[Reply<encode::Error>], number: usize) -> bool {
-    let Ok(script) = script_without(alloc, number) else {
+/// Returns whether the replies are those to the script without the command of this number, over a store that
+/// fails in some calls of `keep`.
+fn follow_without(
+    alloc: Global,
+    replies: &[Reply<encode::Error>],
+    omitted: usize,
+    keeps_that_fail: &'static [u64],
+) -> bool {
+    let mut editor = editor_over(alloc, &[], keeps_that_fail);
+    let Ok(script) = script_without(alloc, omitted) else {
         return false;
     };
-    match replies_anew(alloc, script.as_str(), &[]) {
-        Some(others) => have_same_effects(replies, number, others.as_slice()),
-        None => false,
-    }
-}
-
-/// Returns whether the replies are those to the script if the call of `keep` at this position fails.
-fn follow_unkept(alloc: Global, replies: &[Reply<encode::Error>], position: usize) -> bool {
-    let failing = KEEPS
-        .get(position..position.saturating_add(1))
-        .unwrap_or(&[]);
-    match replies_anew(alloc, TEN_LINES, failing) {
-        Some(others) => have_same_effects(replies, ample_replies().len(), others.as_slice()),
+    match replies_to(alloc, &mut editor, script.as_str()) {
+        Some(others) => have_same_effects(replies, omitted, others.as_slice()),
         None => false,
     }
 }
 
 /// Returns whether the replies follow from the commands that succeeded and the trees that were kept.
 fn follow(alloc: Global, replies: &[Reply<encode::Error>]) -> bool {
+    let count = ample_replies().len();
     match first_stop(replies) {
-        None => replies.len() == ample_replies().len(),
-        Some(Stop::Command(number)) => follow_without(alloc, replies, number),
-        Some(Stop::Keep(position)) => follow_unkept(alloc, replies, position),
+        None => replies.len() == count,
+        Some(Stop::Command(number)) => follow_without(alloc, replies, number, &[]),
+        Some(Stop::Keep(position)) => {
+            let failing = KEEPS
+                .get(position..position.saturating_add(1))
+                .unwrap_or(&[]);
+            follow_without(alloc, replies, count, failing)
+        }
         Some(Stop::Other) => false,
     }
-}
-
-/// Returns whether the replies are those with ample memory.
-fn are_ample(replies: &[Reply<encode::Error>]) -> bool {
-    replies.len() == ample_replies().len() && first_stop(replies).is_none()
 }
 
 /// Runs the script, and returns whether its replies are those with ample memory.
 fn has_ample_replies(alloc: Global, editor: &mut Editor<Failing>) -> bool {
     match replies_to(alloc, editor, TEN_LINES) {
-        Some(replies) => are_ample(replies.as_slice()),
+        Some(replies) => replies.len() == ample_replies().len() && first_stop(&replies).is_none(),
         None => false,
     }
 }
 
-/// Returns whether the replies of a run follow from what succeeded. If the entire run fails, nothing was
-/// done, and it is repeated.
-fn replies_follow(alloc: Global) -> bool {
-    let mut editor = editor_over(alloc, &[], &[]);
-    match replies_to(alloc, &mut editor, TEN_LINES) {
-        Some(replies) => follow(alloc, replies.as_slice()),
-        None => has_ample_replies(alloc, &mut editor),
-    }
-}
-
+/// If the entire run fails, nothing was done, and it is repeated.
 #[test]
 fn runs_entire_script_whatever_allocation_fails(rt: HostRuntime) {
-    assert!(rt; replies_follow(rt.alloc()));
+    let alloc = rt.alloc();
+    let mut editor = editor_over(alloc, &[], &[]);
+    let follows = match replies_to(alloc, &mut editor, TEN_LINES) {
+        Some(replies) => follow(alloc, replies.as_slice()),
+        None => has_ample_replies(alloc, &mut editor),
+    };
+    assert!(rt; follows);
 }

@@ -1,126 +1,107 @@
-//! A failed edit between others in a directory, and a root that is rejected: the rest of the run is done.
+//! Edits in one directory, by one command, and a root that is rejected: a failed command or edit leaves the rest of
+//! the run to be done. Ids are those that `git mktree --missing` prints.
 
-use crate::runs::samples::{
-    FILE, has_id_and_count, in_a_and_written, insertion_of, push_insert, replies_on_empty,
-};
+use crate::runs::samples::{editor_over, reports, run_on};
 use bstr::BString;
 use gixobj_base::Tree;
 use gixobj_base::hash::ObjectId;
 use gixobj_base::tree::{Entry, EntryKind};
-use gixobj_editor::editor::{Error, Written};
-use gixobj_editor::{Command, Edit, EditReply, Reply};
+use gixobj_editor::{Command, Edit};
 use std::alloc::{AllocError, Global};
 
-/// The id of a directory with the files `b` and `c`, as `git mktree --missing` prints it.
-const DIRECTORY: &str = "902b8b41da66fef3bfdbf578a9b45304b9114c0e";
+const FILE: ObjectId = ObjectId::Sha1([1; 20]);
 
-/// The id of the root with the directory `a` of the files `b` and `c`.
-const ROOT: &str = "d79ed5c1e2ff97a59beb0fc1a1b79b68aa0be74a";
+/// Builds an edit that inserts a file of this name.
+fn insertion_of(alloc: Global, name: &[u8]) -> Result<Edit, AllocError> {
+    let name = BString::from_slice(alloc, name)?;
+    Ok(Edit::Upsert {
+        path: vec![in alloc; name]?,
+        kind: EntryKind::Blob,
+        id: FILE,
+    })
+}
 
-/// The id of a root with the file `f`.
-const ROOT_OF_ONE: &str = "62ebf0092433c4f3272b4b55bfbfdf3b479cefa1";
-
-/// Edits that insert three files, the second with an empty name.
-fn edits(alloc: Global) -> Result<Vec<Edit>, AllocError> {
+/// Builds edits that insert files of these names.
+fn insertions_of(alloc: Global, names: &[&[u8]]) -> Result<Vec<Edit>, AllocError> {
     let mut edits = Vec::new(alloc);
-    for name in [b"b".as_slice(), b"".as_slice(), b"c".as_slice()] {
-        push_insert(alloc, &mut edits, name)?;
+    for name in names {
+        edits.push(insertion_of(alloc, name)?)?;
     }
     Ok(edits)
 }
 
-/// Commands that insert the three files into the directory `a`, and write the root.
-fn edits_in_a_directory(alloc: Global) -> Result<Vec<Command>, AllocError> {
-    in_a_and_written(alloc, edits(alloc)?)
+/// Builds a command that inserts files of these names into the directory `a`, and one that writes the root.
+fn in_a_and_written(alloc: Global, names: &[&[u8]]) -> Result<Vec<Command>, AllocError> {
+    let name = BString::from_slice(alloc, b"a")?;
+    let prefix = vec![in alloc; name]?;
+    let edits = insertions_of(alloc, names)?;
+    let at = Command::At { prefix, edits };
+    Ok(vec![in alloc; at, Command::Edit(Edit::Write)]?)
 }
 
-/// Returns whether the second of three edits fails, and the others are done.
-fn are_done_but_one<E>(edits: &[EditReply<E>]) -> bool {
-    matches!(
-        edits,
-        [
-            EditReply::Done,
-            EditReply::Refused(Error::EmptyPathComponent),
-            EditReply::Done,
-        ]
-    )
-}
-
-/// Returns whether a write emitted two trees, those of the directory and of the root.
-fn is_written(written: &Written) -> bool {
-    let directory = ObjectId::from_hex(DIRECTORY.as_bytes());
-    match written.trees.first() {
-        Some((id, _)) => Some(*id) == directory && has_id_and_count(written, ROOT, 2),
-        None => false,
+/// Returns whether commands on the empty root have this report, if there are commands.
+fn has_report(alloc: Global, commands: Result<Vec<Command>, AllocError>, lines: &str) -> bool {
+    let mut editor = editor_over(alloc, &[], &[]);
+    let Ok(commands) = commands else {
+        return false;
+    };
+    match run_on(alloc, &mut editor, commands) {
+        Ok(replies) => reports(alloc, replies.as_slice(), editor.lookups(), lines),
+        Err(_) => false,
     }
 }
 
-/// Returns whether only the second edit fails, and the root is written with the files of the others.
-fn continues_in_directory<E>(replies: &[Reply<E>]) -> bool {
-    match replies {
-        [Reply::At(edits), Reply::Edit(EditReply::Written(written))] => {
-            are_done_but_one(edits.as_slice()) && is_written(written)
-        }
-        _ => false,
-    }
-}
+/// The names of 32 files.
+const MANY: &[&[u8]] = &[
+    b"f0", b"f1", b"f2", b"f3", b"f4", b"f5", b"f6", b"f7", b"f8", b"f9", b"f10", b"f11", b"f12",
+    b"f13", b"f14", b"f15", b"f16", b"f17", b"f18", b"f19", b"f20", b"f21", b"f22", b"f23", b"f24",
+    b"f25", b"f26", b"f27", b"f28", b"f29", b"f30", b"f31",
+];
 
-/// Returns whether a run in which the second edit fails does the others.
-fn fails_halfway(alloc: Global) -> bool {
-    match replies_on_empty(alloc, edits_in_a_directory(alloc)) {
-        Some(replies) => continues_in_directory(replies.as_slice()),
-        None => false,
-    }
-}
+/// The report of [`MANY`]: each edit is done.
+const ALL_DONE: &str = "\
+    ok\nok\nok\nok\nok\nok\nok\nok\n\
+    ok\nok\nok\nok\nok\nok\nok\nok\n\
+    ok\nok\nok\nok\nok\nok\nok\nok\n\
+    ok\nok\nok\nok\nok\nok\nok\nok\n\
+    wrote e11086f75f7478014be187d85a658cdcf8da7527 2\nlookups 0\n";
+
+/// Names of files in the directory `a`, and the report of a command that inserts them and of a write. The second
+/// edit of the first row fails.
+const ROWS: &[(&[&[u8]], &str)] = &[
+    (
+        &[b"b", b"", b"c"],
+        "ok\nrefused 1\nok\nwrote d79ed5c1e2ff97a59beb0fc1a1b79b68aa0be74a 2\nlookups 0\n",
+    ),
+    (MANY, ALL_DONE),
+];
 
 #[test]
-fn continues_after_failed_edit(rt: HostRuntime) {
-    assert!(rt; fails_halfway(rt.alloc()));
+fn does_other_edits_in_directory(rt: HostRuntime) {
+    for (names, lines) in ROWS {
+        let commands = in_a_and_written(rt.alloc(), names);
+        assert!(rt; has_report(rt.alloc(), commands, lines), "{lines}");
+    }
 }
 
-/// Builds an entry of the file `g`.
-fn file_g(alloc: Global) -> Result<Entry, AllocError> {
-    Ok(Entry {
-        mode: EntryKind::Blob.into(),
-        filename: BString::from_slice(alloc, b"g")?,
-        oid: FILE,
-    })
-}
-
-/// Builds a tree of two files of one name.
-fn twice_the_same(alloc: Global) -> Result<Tree, AllocError> {
-    let entries = vec![in alloc; file_g(alloc)?, file_g(alloc)?]?;
-    Ok(Tree { entries })
-}
-
-/// Commands that insert a file, set a root that isn't well-formed, and write the root.
+/// Commands that insert a file, set a root with an empty name, and write the root.
 fn malformed_root(alloc: Global) -> Result<Vec<Command>, AllocError> {
+    let entry = Entry {
+        mode: EntryKind::Blob.into(),
+        filename: BString::from_slice(alloc, b"")?,
+        oid: FILE,
+    };
+    let entries = vec![in alloc; entry]?;
     let insertion = Command::Edit(insertion_of(alloc, b"f")?);
-    let set = Command::SetRoot(twice_the_same(alloc)?);
+    let set = Command::SetRoot(Tree { entries });
     Ok(vec![in alloc; insertion, set, Command::Edit(Edit::Write)]?)
 }
 
-/// Returns whether the new root is rejected, and the previous one is written.
-fn keeps_its_root<E>(replies: &[Reply<E>]) -> bool {
-    match replies {
-        [
-            Reply::Edit(EditReply::Done),
-            Reply::RootRefused,
-            Reply::Edit(EditReply::Written(written)),
-        ] => has_id_and_count(written, ROOT_OF_ONE, 1),
-        _ => false,
-    }
-}
-
-/// Returns whether a run in which a new root is rejected keeps its root.
-fn rejects_root(alloc: Global) -> bool {
-    match replies_on_empty(alloc, malformed_root(alloc)) {
-        Some(replies) => keeps_its_root(replies.as_slice()),
-        None => false,
-    }
-}
+/// The report of a root that is rejected between an edit and a write: the previous root is written.
+const REJECTED: &str =
+    "ok\nrefused 5\nwrote 62ebf0092433c4f3272b4b55bfbfdf3b479cefa1 1\nlookups 0\n";
 
 #[test]
 fn keeps_root_if_new_one_is_malformed(rt: HostRuntime) {
-    assert!(rt; rejects_root(rt.alloc()));
+    assert!(rt; has_report(rt.alloc(), malformed_root(rt.alloc()), REJECTED));
 }

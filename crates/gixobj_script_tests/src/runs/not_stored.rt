@@ -1,5 +1,6 @@
 //! Stores that fail to keep or to find a tree: the report, and the rest of the run.
 
+use crate::runs::allocation_failures::edit_reply;
 use crate::runs::samples::{TEN_LINES, editor_over, has_id_and_count, replies_to};
 use gixobj_base::hash::{Kind as HashKind, ObjectId};
 use gixobj_base::{Tree, encode};
@@ -318,26 +319,36 @@ lookups 0
 ",
         keeps: 3,
     },
+    Row {
+        name: "a-leaf-in-a-name-with-a-space",
+        script: "upsert tree 0303030303030303030303030303030303030303 a b/c
+leaf a b/c
+",
+        failing: (&[], &[]),
+        report: "ok
+refused 4 a b/c
+lookups 0
+",
+        keeps: 0,
+    },
 ];
 
-/// Returns whether the script of a row has the expected report.
-fn has_report(alloc: Global, editor: &mut Editor<Failing>, row: &Row) -> bool {
+/// Returns whether a script has these lines as its report.
+fn has_lines(alloc: Global, editor: &mut Editor<Failing>, script: &str, lines: &str) -> bool {
     let out = |tree: &Tree| tree.compute_id(alloc, HashKind::Sha1);
-    match edit_on(alloc, editor, row.script.as_bytes(), HashKind::Sha1, out) {
-        Ok(report) => report.as_slice() == row.report.as_bytes(),
+    match edit_on(alloc, editor, script.as_bytes(), HashKind::Sha1, out) {
+        Ok(report) => report.as_slice() == lines.as_bytes(),
         Err(_) => false,
     }
 }
 
-/// Returns whether the store counts as many lookups as the editor, and this number of calls of `keep`.
-fn is_counted(editor: &mut Editor<Failing>, keeps: u64) -> bool {
-    editor.lookups() == editor.store_mut().lookups() && editor.store_mut().keeps() == keeps
-}
-
-/// Returns whether the script of a row has the expected report, lookups and calls of `keep`.
+/// Returns whether the script of a row has the expected report and calls of `keep`, and the store counts as many
+/// lookups as the editor.
 fn has_report_and_counts(alloc: Global, row: &Row) -> bool {
     let mut editor = editor_over(alloc, row.failing.0, row.failing.1);
-    has_report(alloc, &mut editor, row) && is_counted(&mut editor, row.keeps)
+    has_lines(alloc, &mut editor, row.script, row.report)
+        && editor.lookups() == editor.store_mut().lookups()
+        && editor.store_mut().keeps() == row.keeps
 }
 
 #[test]
@@ -347,71 +358,97 @@ fn reports_errors(rt: HostRuntime) {
     }
 }
 
-/// Returns whether an error is that of the store.
-fn is_for_store(error: &Error) -> bool {
-    match error {
-        Error::FindExistingObject(existing_object::Error::Find(find::Error::Store(message))) => {
-            message.as_bytes() == OFFLINE
+/// The last id of a write, the number of trees that it emitted, and how many of them were kept.
+type Unkept = (&'static str, usize, usize);
+
+/// A script, the lookups and the calls of `keep` that fail, and the position of a reply. The reply has the error of
+/// the store: for a write, after some trees were kept, else for a lookup.
+struct ErrorRow {
+    script: &'static str,
+    failing: (&'static [u64], &'static [u64]),
+    position: usize,
+    unkept: Option<Unkept>,
+}
+
+const ERRORS: &[ErrorRow] = &[
+    ErrorRow {
+        script: AT_THE_FIRST,
+        failing: (&[1], &[]),
+        position: 4,
+        unkept: None,
+    },
+    ErrorRow {
+        script: AT_THE_FIRST_AND_THE_THIRD,
+        failing: (&[1, 3], &[]),
+        position: 4,
+        unkept: None,
+    },
+    ErrorRow {
+        script: AT_THE_FIRST_AND_THE_THIRD,
+        failing: (&[1, 3], &[]),
+        position: 5,
+        unkept: None,
+    },
+    ErrorRow {
+        script: WRITE,
+        failing: (&[], &[2]),
+        position: 2,
+        unkept: Some((ROOT, 2, 1)),
+    },
+    ErrorRow {
+        script: WRITE_BY_CURSOR,
+        failing: (&[], &[1]),
+        position: 2,
+        unkept: Some(("21d32280ec25095dcf1a389927245f7b082b590b", 1, 0)),
+    },
+];
+
+/// Returns whether a reply has the error of the store.
+fn is_offline(reply: &Reply<encode::Error>, unkept: Option<Unkept>) -> bool {
+    match (edit_reply(reply), unkept) {
+        (
+            Some(
+                EditReply::Refused(
+                    Error::FindExistingObject(
+                        existing_object::Error::Find(find::Error::Store(message)),
+                    ),
+                ),
+            ),
+            None,
+        ) => message.as_bytes() == OFFLINE,
+        (
+            Some(EditReply::NotKept(written, count, KeepError::Store(message))),
+            Some((id, emitted, kept)),
+        ) => {
+            has_id_and_count(written, id, emitted)
+                && *count == kept
+                && message.as_bytes() == OFFLINE
         }
         _ => false,
     }
 }
 
-/// Returns whether the reply to an edit has the error of the store.
-fn is_offline(reply: Option<&Reply<encode::Error>>) -> bool {
-    match reply {
-        Some(Reply::Edit(EditReply::Refused(error))) => is_for_store(error),
-        _ => false,
-    }
-}
-
-/// Returns whether the replies at these positions to a script have the error of the store, which fails at
-/// these lookups.
-fn are_offline(
-    alloc: Global,
-    lookups_that_fail: &'static [u64],
-    script: &str,
-    positions: (usize, usize),
-) -> bool {
-    let mut editor = editor_over(alloc, lookups_that_fail, &[]);
-    match replies_to(alloc, &mut editor, script) {
-        Some(replies) => {
-            is_offline(replies.get(positions.0)) && is_offline(replies.get(positions.1))
-        }
+/// Returns whether the reply of a row has the error of the store.
+fn is_offline_in(alloc: Global, row: &ErrorRow) -> bool {
+    let mut editor = editor_over(alloc, row.failing.0, row.failing.1);
+    let Some(replies) = replies_to(alloc, &mut editor, row.script) else {
+        return false;
+    };
+    match replies.get(row.position) {
+        Some(reply) => is_offline(reply, row.unkept),
         None => false,
     }
 }
 
-/// Each edit with a failed lookup has the error of the store.
 #[test]
-fn returns_store_error_of_failed_lookups(rt: HostRuntime) {
-    assert!(rt; are_offline(rt.alloc(), &[1], AT_THE_FIRST, (4, 4)));
-    assert!(rt; are_offline(rt.alloc(), &[1, 3], AT_THE_FIRST_AND_THE_THIRD, (4, 5)));
-}
-
-/// Returns whether the last reply is that of two emitted trees of which the second wasn't kept.
-fn stops_at_the_second(replies: &[Reply<encode::Error>], id: &str) -> bool {
-    match replies.last() {
-        Some(Reply::Edit(EditReply::NotKept(written, count, KeepError::Store(message)))) => {
-            has_id_and_count(written, id, 2) && *count == 1 && message.as_bytes() == OFFLINE
-        }
-        _ => false,
-    }
-}
-
-/// Returns whether the script [`WRITE`] ends with a root that isn't kept.
-fn is_stopped(alloc: Global, editor: &mut Editor<Failing>) -> bool {
-    match replies_to(alloc, editor, WRITE) {
-        Some(replies) => stops_at_the_second(replies.as_slice(), ROOT),
-        None => false,
-    }
-}
-
-/// Removes a missing file, for which its directory is looked up, and returns whether that is done.
-fn is_looked_up(alloc: Global, editor: &mut Editor<Failing>) -> bool {
-    match replies_to(alloc, editor, "remove bak/none") {
-        Some(replies) => { matches!(replies.first(), Some(Reply::Edit(EditReply::Done))) }
-        None => false,
+fn returns_store_errors(rt: HostRuntime) {
+    for row in ERRORS {
+        assert!(rt;
+            is_offline_in(rt.alloc(), row),
+            "{} {}",
+            row.script,
+            row.position
+        );
     }
 }
 
@@ -424,50 +461,18 @@ fn finds(alloc: Global, store: &Failing, id: &str) -> bool {
     matches!(&store.try_find(id.as_oid(), &mut buffer), Ok(Some(_)))
 }
 
-/// Returns whether the store finds the first tree, and not the second, and the editor has counted no lookup.
-fn has_the_first_alone(alloc: Global, editor: &mut Editor<Failing>) -> bool {
-    finds(alloc, editor.store_mut(), BAK)
-        && !finds(alloc, editor.store_mut(), ROOT)
-        && editor.lookups() == 0
-}
+/// The report of [`WRITE`] if the root isn't kept.
+const UNKEPT_ROOT: &str = "ok\nok\nunkept 90b9c61d2318706c9668ce0b53d697aa2719b7b0\nlookups 0\n";
 
 /// The first tree is in the store, and the second isn't. The directory is no longer open: an edit in it looks
 /// it up.
 #[test]
 fn keeps_first_tree_if_second_fails(rt: HostRuntime) {
-    let mut editor = editor_over(rt.alloc(), &[], &[2]);
-    assert!(rt; is_stopped(rt.alloc(), &mut editor));
-    assert!(rt; has_the_first_alone(rt.alloc(), &mut editor));
-    assert!(rt; is_looked_up(rt.alloc(), &mut editor));
-    assert!(rt; editor.lookups() == 1);
+    let alloc = rt.alloc();
+    let mut editor = editor_over(alloc, &[], &[2]);
+    assert!(rt; has_lines(alloc, &mut editor, WRITE, UNKEPT_ROOT));
+    assert!(rt; finds(alloc, editor.store_mut(), BAK));
+    assert!(rt; !finds(alloc, editor.store_mut(), ROOT));
+    assert!(rt; has_lines(alloc, &mut editor, "remove bak/none", "ok\nlookups 1\n"));
     assert!(rt; editor.store_mut().lookups() == 3);
-}
-
-/// Returns whether the reply is that of one emitted tree, which the store didn't keep, with its error.
-fn is_not_kept(reply: Option<&EditReply<encode::Error>>, id: &str) -> bool {
-    match reply {
-        Some(EditReply::NotKept(written, count, KeepError::Store(message))) => {
-            has_id_and_count(written, id, 1) && *count == 0 && message.as_bytes() == OFFLINE
-        }
-        _ => false,
-    }
-}
-
-/// Returns whether the script [`WRITE_BY_CURSOR`] ends with a directory that isn't kept.
-fn is_stopped_by_cursor(alloc: Global, editor: &mut Editor<Failing>) -> bool {
-    let Some(replies) = replies_to(alloc, editor, WRITE_BY_CURSOR) else {
-        return false;
-    };
-    match replies.last() {
-        Some(Reply::At(replies)) => {
-            is_not_kept(replies.last(), "21d32280ec25095dcf1a389927245f7b082b590b")
-        }
-        _ => false,
-    }
-}
-
-#[test]
-fn returns_store_error_of_write_by_cursor(rt: HostRuntime) {
-    let mut editor = editor_over(rt.alloc(), &[], &[1]);
-    assert!(rt; is_stopped_by_cursor(rt.alloc(), &mut editor));
 }

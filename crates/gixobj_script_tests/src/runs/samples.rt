@@ -1,17 +1,13 @@
 //! Scripts and commands that several tests run, and functions that run them.
 
-use bstr::BString;
 use gixobj_base::hash::{Kind as HashKind, ObjectId};
-use gixobj_base::tree::EntryKind;
 use gixobj_base::{OutOfMemory, Tree, encode};
 use gixobj_editor::editor::{Editor, Error, Written};
-use gixobj_editor::{Command, Edit, Reply, run};
+use gixobj_editor::{Command, Reply, run};
 use gixobj_find_tests::failing::Failing;
 use gixobj_keep::Memory;
 use gixobj_script::{parse_script, report_lines};
 use std::alloc::{AllocError, Global};
-
-pub(crate) const FILE: ObjectId = ObjectId::Sha1([1; 20]);
 
 /// Edits before and after writes: an emitted directory is looked up again.
 pub(crate) const TEN_LINES: &str = "upsert blob fa49b077972391ad58037050f2a75f74e3671e92 new.txt
@@ -76,54 +72,6 @@ pub(crate) fn replies_to(
     }
 }
 
-/// Builds an edit that inserts a file of this name.
-pub(crate) fn insertion_of(alloc: Global, name: &[u8]) -> Result<Edit, AllocError> {
-    let name = BString::from_slice(alloc, name)?;
-    Ok(Edit::Upsert {
-        path: vec![in alloc; name]?,
-        kind: EntryKind::Blob,
-        id: FILE,
-    })
-}
-
-/// Appends an edit that inserts a file of this name.
-pub(crate) fn push_insert(
-    alloc: Global,
-    edits: &mut Vec<Edit>,
-    name: &[u8],
-) -> Result<(), AllocError> {
-    edits.push(insertion_of(alloc, name)?)?;
-    Ok(())
-}
-
-/// Builds a command of edits in the directory `a`.
-fn in_a(alloc: Global, edits: Vec<Edit>) -> Result<Command, AllocError> {
-    let name = BString::from_slice(alloc, b"a")?;
-    let prefix = vec![in alloc; name]?;
-    Ok(Command::At { prefix, edits })
-}
-
-/// Builds a command of edits in the directory `a`, and a write of the root.
-pub(crate) fn in_a_and_written(
-    alloc: Global,
-    edits: Vec<Edit>,
-) -> Result<Vec<Command>, AllocError> {
-    let at = in_a(alloc, edits)?;
-    Ok(vec![in alloc; at, Command::Edit(Edit::Write)]?)
-}
-
-/// Runs commands on the empty root, and returns the replies, if there are commands.
-pub(crate) fn replies_on_empty(
-    alloc: Global,
-    commands: Result<Vec<Command>, AllocError>,
-) -> Option<Vec<Reply<encode::Error>>> {
-    let mut editor = editor_over(alloc, &[], &[]);
-    match commands {
-        Ok(commands) => run_on(alloc, &mut editor, commands).ok(),
-        Err(_) => None,
-    }
-}
-
 /// Returns the number of an error.
 pub(crate) fn number_of(error: &Error) -> u8 {
     match error {
@@ -142,12 +90,7 @@ pub(crate) fn has_id_and_count(written: &Written, id: &str, count: usize) -> boo
 }
 
 /// Returns whether the report of these replies and this number of lookups has these lines.
-pub(crate) fn reports(
-    alloc: Global,
-    replies: &[Reply<encode::Error>],
-    lookups: u64,
-    lines: &str,
-) -> bool {
+pub(crate) fn reports<E>(alloc: Global, replies: &[Reply<E>], lookups: u64, lines: &str) -> bool {
     match report_lines(alloc, replies, lookups) {
         Ok(report) => report.as_slice() == lines.as_bytes(),
         Err(_) => false,

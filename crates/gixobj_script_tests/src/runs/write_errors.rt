@@ -1,12 +1,11 @@
 //! Writes in which a tree fails: the report, and the trees that the next write emits.
 
-use crate::runs::samples::{commands_of, editor_over};
+use crate::runs::samples::{commands_of, editor_over, reports};
 use gixobj_base::Tree;
 use gixobj_base::hash::{Kind as HashKind, ObjectId};
 use gixobj_editor::editor::{Editor, WriteError};
-use gixobj_editor::{Command, EditReply, Reply, run};
+use gixobj_editor::{EditReply, Reply, run};
 use gixobj_find_tests::failing::Failing;
-use gixobj_script::edit_on;
 use std::alloc::Global;
 
 /// Why a tree gets no id.
@@ -18,20 +17,12 @@ enum IdError {
     Unwritten,
 }
 
-/// Returns whether a tree has a file of the name `secret`.
-fn is_secret(tree: &Tree) -> bool {
-    for entry in tree.entries.iter() {
-        if entry.filename.as_bytes() == b"secret".as_slice() {
-            return true;
-        }
-    }
-    false
-}
-
 /// Computes the id of a tree without a file of the name `secret`.
 fn id_unless_secret(alloc: Global, tree: &Tree) -> Result<ObjectId, IdError> {
-    if is_secret(tree) {
-        return Err(IdError::Secret);
+    for entry in tree.entries.iter() {
+        if entry.filename.as_bytes() == b"secret".as_slice() {
+            return Err(IdError::Secret);
+        }
     }
     match tree.compute_id(alloc, HashKind::Sha1) {
         Ok(id) => Ok(id),
@@ -68,64 +59,40 @@ wrote d3768f26137cee49678da775c7c7e79a9ce14150 1
 lookups 1
 ";
 
-/// Returns whether the script has this report.
-fn has_report(alloc: Global, editor: &mut Editor<Failing>) -> bool {
-    let out = |tree: &Tree| id_unless_secret(alloc, tree);
-    match edit_on(alloc, editor, SCRIPT.as_bytes(), HashKind::Sha1, out) {
-        Ok(report) => report.as_slice() == REPORT.as_bytes(),
-        Err(_) => false,
-    }
-}
-
-/// The store keeps no tree of a failed write.
-#[test]
-fn reports_failed_trees(rt: HostRuntime) {
-    let alloc = rt.alloc();
-    let mut editor = editor_over(alloc, &[], &[]);
-    assert!(rt; has_report(alloc, &mut editor));
-    assert!(rt; editor.store_mut().lookups() == 1);
-    assert!(rt; editor.store_mut().keeps() == 3);
-}
-
-/// Returns whether a write failed for a file of the name `secret`.
-fn is_failed_for_secret(reply: &EditReply<IdError>) -> bool {
-    match reply {
-        EditReply::WriteRefused(WriteError::Out(error)) => matches!(error, IdError::Secret),
-        _ => false,
-    }
-}
-
 /// Returns whether a reply is that of a write that failed for a file of the name `secret`.
 fn is_for_secret(reply: Option<&Reply<IdError>>) -> bool {
     match reply {
-        Some(Reply::Edit(reply)) => is_failed_for_secret(reply),
+        Some(Reply::Edit(EditReply::WriteRefused(WriteError::Out(error)))) => {
+            matches!(error, IdError::Secret)
+        }
         _ => false,
     }
 }
 
-/// Returns whether the third reply to commands has the closure's error.
-fn is_third_failed(alloc: Global, editor: &mut Editor<Failing>, commands: Vec<Command>) -> bool {
+/// Returns whether the third reply to the script has the closure's error, and all have the report.
+fn has_replies(alloc: Global, editor: &mut Editor<Failing>) -> bool {
+    let Ok(commands) = commands_of(alloc, SCRIPT) else {
+        return false;
+    };
     match run(
         alloc,
         editor,
         commands,
         |tree: &Tree| id_unless_secret(alloc, tree),
     ) {
-        Ok(replies) => is_for_secret(replies.get(2)),
+        Ok(replies) => {
+            is_for_secret(replies.get(2))
+                && reports(alloc, replies.as_slice(), editor.lookups(), REPORT)
+        }
         Err(_) => false,
     }
 }
 
-/// Returns whether the third reply to the script has the closure's error.
-fn returns_the_error(alloc: Global, editor: &mut Editor<Failing>) -> bool {
-    match commands_of(alloc, SCRIPT) {
-        Ok(commands) => is_third_failed(alloc, editor, commands),
-        Err(_) => false,
-    }
-}
-
+/// The store keeps no tree of a failed write.
 #[test]
 fn returns_error_of_closure(rt: HostRuntime) {
     let mut editor = editor_over(rt.alloc(), &[], &[]);
-    assert!(rt; returns_the_error(rt.alloc(), &mut editor));
+    assert!(rt; has_replies(rt.alloc(), &mut editor));
+    assert!(rt; editor.store_mut().lookups() == 1);
+    assert!(rt; editor.store_mut().keeps() == 3);
 }
