@@ -13,15 +13,11 @@ mod memory;
 #[cfg(test)]
 mod never;
 #[cfg(test)]
-mod one_store;
-#[cfg(test)]
 mod paths;
 #[cfg(test)]
 mod recording;
 #[cfg(test)]
 mod samples;
-#[cfg(test)]
-mod single_calls;
 #[cfg(test)]
 mod steps;
 #[cfg(test)]

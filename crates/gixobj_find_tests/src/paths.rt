@@ -1,102 +1,164 @@
 //! Lookups of entries along paths through the trees of a store.
 
 use crate::failing::{Failing, OFFLINE};
-use crate::samples::{
-    BAK, ROOT, ROOT_BYTES, VERSION_1, id, id_of_bytes, names, stored_trees, two_trees,
-};
-use bstr::BString;
-use gixobj_find::{FindExt, find};
+use crate::samples::{BAK, ROOT, ROOT_BYTES, VERSION_1, id, names, stored_trees};
+use gixobj_find::find;
 use gixobj_hash::Kind;
 use gixobj_hash::hash::{Kind as HashKind, ObjectId};
-use gixobj_keep::Memory;
 use gixobj_mode::EntryKind;
 use gixobj_store::tree::path_names;
 use gixobj_store::{Find, TreeRefIter};
 use gixobj_tree::tree::Entry;
 use std::alloc::Global;
 
-/// Returns whether an entry is a file with this id and this name.
-fn is_file(found: &Option<Entry>, id: ObjectId, name: &[u8]) -> bool {
+/// The result of a lookup, reduced to its case.
+#[derive(Clone, Copy, Debug, PartialEq, Eq)]
+pub(crate) enum Answer {
+    Entry(EntryKind, ObjectId),
+    /// An entry of another name than the last one of the path.
+    OfAnotherName,
+    Nothing,
+    /// The error of a store that fails, with its message.
+    Offline,
+    WithoutMemory,
+    Failed,
+}
+
+/// Classifies the result of a lookup of an entry with this name.
+fn classify(found: &Result<Option<Entry>, find::Error>, name: &str) -> Answer {
     match found {
-        Some(entry) => {
-            entry.oid == id
-                && entry.mode.kind() == EntryKind::Blob
-                && entry.filename.as_bytes() == name
+        Ok(Some(entry)) if entry.filename.as_bytes() == name.as_bytes() => {
+            Answer::Entry(entry.mode.kind(), entry.oid)
         }
-        None => false,
+        Ok(Some(_)) => Answer::OfAnotherName,
+        Ok(None) => Answer::Nothing,
+        Err(find::Error::OutOfMemory) => Answer::WithoutMemory,
+        Err(find::Error::Store(message)) if message.as_bytes() == OFFLINE => Answer::Offline,
+        Err(_) => Answer::Failed,
     }
 }
 
-/// Looks up the entry at a path from the tree with these bytes, in a store.
-pub(crate) fn entry_from<S: Find>(
+/// A tree's encoding, and the kind of its ids.
+pub(crate) type Encoded = (&'static [u8], HashKind);
+
+/// Looks up the entry at a path from this tree. Its last name is `name`.
+pub(crate) fn at_path<S: Find>(
     alloc: Global,
     store: &S,
-    tree: &[u8],
-    hash_kind: HashKind,
+    tree: Encoded,
     path: &[u8],
-) -> Result<Option<Entry>, find::Error> {
+    name: &str,
+) -> Answer {
     let mut buffer = Vec::new(alloc);
-    let reader = TreeRefIter::from_bytes(tree, hash_kind);
-    reader.lookup_entry_by_path(alloc, store, &mut buffer, path)
+    let reader = TreeRefIter::from_bytes(tree.0, tree.1);
+    let found = reader.lookup_entry_by_path(alloc, store, &mut buffer, path);
+    classify(&found, name)
 }
 
-/// Looks up the entry at a path from the tree [`ROOT`], in a store of two trees.
-fn at_path(alloc: Global, path: &[u8]) -> Result<Option<Entry>, find::Error> {
-    let store = two_trees(alloc)?;
-    entry_from(alloc, &store, ROOT_BYTES, HashKind::Sha1, path)
-}
+/// The tree [`ROOT`].
+const FROM_ROOT: Encoded = (ROOT_BYTES, HashKind::Sha1);
 
-/// Returns whether a lookup found the file `test.txt`.
-fn is_found(answer: &Result<Option<Entry>, find::Error>) -> bool {
-    match answer {
-        Ok(found) => is_file(found, id(VERSION_1), b"test.txt"),
-        Err(_) => false,
-    }
-}
+/// A tree of two entries: a blob with the mode of a directory, and the tree [`BAK`] with the mode of a file.
+const MIXED: Encoded = (
+    b"40000 blob\0\
+    \x7c\x4f\x37\x27\x7f\xed\x15\xcf\x3c\x1f\x1a\x81\x36\xb7\x5a\xbd\x99\x63\x38\xee\
+    100644 file\0\
+    \xd8\x32\x9f\xc1\xcc\x93\x87\x80\xff\xdd\x9f\x94\xe0\xd3\x64\xe0\xea\x74\xf5\x79",
+    HashKind::Sha1,
+);
 
-#[test]
-fn finds_file_in_directory(rt: HostRuntime) {
-    assert!(rt; is_found(&at_path(rt.alloc(), b"bak//test.txt")));
-}
+/// Two entries of one name, and a third after a malformed one.
+const TWICE: Encoded = (
+    b"100644 a\0aaaaaaaaaaaaaaaaaaaa40000 a\0bbbbbbbbbbbbbbbbbbbb!100644 c\0cccccccccccccccccccc",
+    HashKind::Sha1,
+);
 
-/// Returns the id of the entry at a path, or `Some(None)` if there is no entry, or `None` if the lookup
-/// fails.
-fn id_at(alloc: Global, path: &[u8]) -> Option<Option<ObjectId>> {
-    match at_path(alloc, path) {
-        Ok(Some(entry)) => Some(Some(entry.oid)),
-        Ok(None) => Some(None),
-        Err(_) => None,
-    }
-}
+/// The encoding of a tree of one file, whose id has 32 bytes.
+const FILE_OF_SHA256: &[u8] = b"100644 b\0\
+    \x07\x07\x07\x07\x07\x07\x07\x07\x07\x07\x07\x07\x07\x07\x07\x07\
+    \x07\x07\x07\x07\x07\x07\x07\x07\x07\x07\x07\x07\x07\x07\x07\x07";
 
-/// Paths of the directory `bak`.
-const DIRECTORIES: &[&[u8]] = &[b"bak", b"/bak/", b"//bak"];
+/// A tree of the tree [`FILE_OF_SHA256`] as `a`, by the id that git computes.
+const ABOVE_SHA256: Encoded = (
+    b"40000 a\0\
+    \x5a\x6d\xbd\x4b\x20\x61\x9c\x8f\x7f\xbd\x8d\x59\x5a\x8b\x4c\xad\
+    \x1f\xe0\x85\xb0\x5f\xbf\x1d\x91\x59\x69\x21\xb9\xe1\x85\x14\x26",
+    HashKind::Sha256,
+);
 
-#[test]
-fn finds_directories(rt: HostRuntime) {
-    for &path in DIRECTORIES {
-        assert!(rt; id_at(rt.alloc(), path) == Some(Some(id(BAK))), "{path:?}");
-    }
-}
+/// The ids of the file of each of the last two trees.
+const FIRST_OF_TWICE: &[u8] = b"6161616161616161616161616161616161616161";
 
-/// Paths without an entry: without a name; below a file that the store lacks; with a missing name, first or
-/// last. The part `.` is a name.
-const NOTHING: &[&[u8]] = &[
-    b"",
-    b"/",
-    b"new.txt/q",
-    b"none",
-    b"none/test.txt",
-    b"bak/none",
-    b"./bak",
-    b"bak/.",
+const OF_SHA256: &[u8] = b"0707070707070707070707070707070707070707070707070707070707070707";
+
+/// A tree, a path from it, and the name, kind and id of the entry, if there is one.
+type Row = (
+    Encoded,
+    &'static [u8],
+    Option<(&'static str, EntryKind, &'static [u8])>,
+);
+
+/// Paths with an entry; without a name; below a file that the store lacks; with a missing name, first or last.
+/// The part `.` is a name. A path through a blob finds nothing, and one through an entry with a file's mode and
+/// a tree's id finds the entry. Of two entries of one name the first is found, and none after a malformed one.
+const ROWS: &[Row] = &[
+    (
+        FROM_ROOT,
+        b"bak//test.txt",
+        Some(("test.txt", EntryKind::Blob, VERSION_1)),
+    ),
+    (FROM_ROOT, b"bak", Some(("bak", EntryKind::Tree, BAK))),
+    (FROM_ROOT, b"/bak/", Some(("bak", EntryKind::Tree, BAK))),
+    (FROM_ROOT, b"//bak", Some(("bak", EntryKind::Tree, BAK))),
+    (FROM_ROOT, b"", None),
+    (FROM_ROOT, b"/", None),
+    (FROM_ROOT, b"new.txt/q", None),
+    (FROM_ROOT, b"none", None),
+    (FROM_ROOT, b"none/test.txt", None),
+    (FROM_ROOT, b"bak/none", None),
+    (FROM_ROOT, b"./bak", None),
+    (FROM_ROOT, b"bak/.", None),
+    (MIXED, b"blob/q", None),
+    (
+        MIXED,
+        b"file/test.txt",
+        Some(("test.txt", EntryKind::Blob, VERSION_1)),
+    ),
+    (TWICE, b"a", Some(("a", EntryKind::Blob, FIRST_OF_TWICE))),
+    (TWICE, b"c", None),
+    (
+        ABOVE_SHA256,
+        b"a/b",
+        Some(("b", EntryKind::Blob, OF_SHA256)),
+    ),
 ];
 
 #[test]
-fn finds_nothing_at_paths_without_entry(rt: HostRuntime) {
-    for &path in NOTHING {
-        assert!(rt; id_at(rt.alloc(), path) == Some(None), "{path:?}");
+fn finds_entries_at_paths(rt: HostRuntime) {
+    let mut store = stored_trees(rt.alloc());
+    let blob = store.insert(Kind::Blob, HashKind::Sha1, b"100644 q\0");
+    assert!(rt; blob.ok() == Some(id(b"7c4f37277fed15cf3c1f1a8136b75abd996338ee")));
+    let tree = store.insert(Kind::Tree, HashKind::Sha256, FILE_OF_SHA256);
+    assert!(rt; tree.is_ok());
+    for &(tree, path, wanted) in ROWS {
+        let (name, expected) = match wanted {
+            Some((name, kind, hex)) => (name, Answer::Entry(kind, id(hex))),
+            None => ("", Answer::Nothing),
+        };
+        let answer = at_path(rt.alloc(), &store, tree, path, name);
+        assert!(rt; answer == expected, "{path:?}: {answer:?}");
     }
+}
+
+/// Looks up the entry of these names from this tree; `Failed` if they can't be allocated.
+fn at_names<S: Find>(alloc: Global, store: &S, tree: Encoded, path: &[&str]) -> Answer {
+    let Ok(names) = names(alloc, path) else {
+        return Answer::Failed;
+    };
+    let mut buffer = Vec::new(alloc);
+    let reader = TreeRefIter::from_bytes(tree.0, tree.1);
+    let found = reader.lookup_entry(alloc, store, &mut buffer, &names);
+    classify(&found, path.last().copied().unwrap_or(""))
 }
 
 /// Names of a path, and whether there is an entry.
@@ -107,184 +169,56 @@ const NAMES: &[(&[&str], bool)] = &[
     (&[], false),
 ];
 
-/// Returns whether there is an entry at these names from the tree [`ROOT`] in a store of two trees; `None` if
-/// a lookup fails.
-fn is_there(alloc: Global, path: &[&str]) -> Option<bool> {
-    match (&two_trees(alloc), &names(alloc, path)) {
-        (Ok(store), Ok(path)) => is_there_in(alloc, store, path),
-        _ => None,
-    }
-}
-
-/// Returns whether there is an entry at these names from the tree [`ROOT`] in a store; `None` if a lookup
-/// fails.
-fn is_there_in(alloc: Global, store: &Memory, path: &[BString]) -> Option<bool> {
-    let (mut tree, mut buffer) = (Vec::new(alloc), Vec::new(alloc));
-    match store.find_tree_iter(id(ROOT).as_oid(), &mut tree) {
-        Ok(reader) => is_some(&reader.lookup_entry(alloc, store, &mut buffer, path)),
-        Err(_) => None,
-    }
-}
-
-/// Returns whether a lookup found an entry; `None` if it failed.
-fn is_some(answer: &Result<Option<Entry>, find::Error>) -> Option<bool> {
-    match answer {
-        Ok(found) => Some(found.is_some()),
-        Err(_) => None,
-    }
-}
-
 /// Names are looked up unchanged: an empty one, or one with a slash, like others.
 #[test]
 fn looks_up_names_unchanged(rt: HostRuntime) {
-    for &(path, wanted) in NAMES {
-        assert!(rt; is_there(rt.alloc(), path) == Some(wanted), "{path:?}");
+    let store = stored_trees(rt.alloc());
+    for &(path, is_there) in NAMES {
+        let expected = match is_there {
+            true => Answer::Entry(EntryKind::Blob, id(VERSION_1)),
+            false => Answer::Nothing,
+        };
+        let answer = at_names(rt.alloc(), &store, FROM_ROOT, path);
+        assert!(rt; answer == expected, "{path:?}: {answer:?}");
     }
-}
-
-/// A tree of two entries: a blob with the mode of a directory, and the tree [`BAK`] with the mode of a file.
-const MIXED: &[u8] = b"40000 blob\0\
-    \x7c\x4f\x37\x27\x7f\xed\x15\xcf\x3c\x1f\x1a\x81\x36\xb7\x5a\xbd\x99\x63\x38\xee\
-    100644 file\0\
-    \xd8\x32\x9f\xc1\xcc\x93\x87\x80\xff\xdd\x9f\x94\xe0\xd3\x64\xe0\xea\x74\xf5\x79";
-
-/// Returns whether there is an entry at a path from the tree with these bytes, in a store; `None` if the
-/// lookup fails.
-fn is_there_from<S: Find>(alloc: Global, store: &S, tree: &[u8], path: &[u8]) -> Option<bool> {
-    is_some(&entry_from(alloc, store, tree, HashKind::Sha1, path))
-}
-
-/// A path through a blob finds nothing, and one through an entry with a file's mode and a tree's id finds the
-/// entry.
-#[test]
-fn follows_kinds_of_objects_and_not_modes(rt: HostRuntime) {
-    let mut store = stored_trees(rt.alloc());
-    let blob = store.insert(Kind::Blob, HashKind::Sha1, b"100644 q\0");
-    assert!(rt; blob.ok() == Some(id(b"7c4f37277fed15cf3c1f1a8136b75abd996338ee")));
-    assert!(rt; is_there_from(rt.alloc(), &store, MIXED, b"blob/q") == Some(false));
-    assert!(rt; is_there_from(rt.alloc(), &store, MIXED, b"file/test.txt") == Some(true));
-}
-
-/// Returns whether a lookup along a path from the tree [`ROOT_BYTES`] fails with the error of the store.
-fn fails<S: Find>(alloc: Global, store: &S, path: &[u8]) -> bool {
-    matches!(
-        &entry_from(alloc, store, ROOT_BYTES, HashKind::Sha1, path),
-        Err(find::Error::Store(_))
-    )
-}
-
-/// The path `bak/test.txt` needs one lookup, which fails the first time; the path `bak` needs none.
-#[test]
-fn fails_if_store_fails(rt: HostRuntime) {
-    let alloc = rt.alloc();
-    let store = Failing::new(alloc, stored_trees(alloc), &[1], &[]);
-    assert!(rt; is_there_from(alloc, &store, ROOT_BYTES, b"bak") == Some(true));
-    assert!(rt; store.lookups() == 0);
-    assert!(rt; fails(alloc, &store, b"bak/test.txt") && store.lookups() == 1);
-    assert!(rt; is_there_from(alloc, &store, ROOT_BYTES, b"bak/test.txt") == Some(true));
-    assert!(rt; store.lookups() == 2);
 }
 
 /// A tree of one entry, the tree [`ROOT`] as `top`.
-const TOP: &[u8] = b"40000 top\0\
-    \x3c\x4e\x9c\xd7\x89\xd8\x8d\x8d\x89\xc1\x07\x37\x07\xc3\x58\x5e\x41\xb0\xe6\x14";
+const TOP: Encoded = (
+    b"40000 top\0\
+    \x3c\x4e\x9c\xd7\x89\xd8\x8d\x8d\x89\xc1\x07\x37\x07\xc3\x58\x5e\x41\xb0\xe6\x14",
+    HashKind::Sha1,
+);
 
-/// Looks up the entry of the names `top`, `bak` and `test.txt` from the tree [`TOP`].
-fn entry_by_names<S: Find>(alloc: Global, store: &S) -> Result<Option<Entry>, find::Error> {
-    let path = names(alloc, &["top", "bak", "test.txt"])?;
-    let mut buffer = Vec::new(alloc);
-    let reader = TreeRefIter::from_bytes(TOP, HashKind::Sha1);
-    reader.lookup_entry(alloc, store, &mut buffer, &path)
-}
+/// The names and the path of a file from the tree [`TOP`].
+const FILE_NAMES: &[&str] = &["top", "bak", "test.txt"];
 
-/// Looks up the entry at the path `top/bak/test.txt` from the tree [`TOP`].
-fn entry_by_path<S: Find>(alloc: Global, store: &S) -> Result<Option<Entry>, find::Error> {
-    entry_from(alloc, store, TOP, HashKind::Sha1, b"top/bak/test.txt")
-}
-
-/// Returns whether a lookup failed with the message of the store.
-fn is_offline(answer: &Result<Option<Entry>, find::Error>) -> bool {
-    match answer {
-        Err(find::Error::Store(message)) => message.as_bytes() == OFFLINE,
-        _ => false,
-    }
-}
-
-/// Returns whether a lookup by names and then one by a path fail with the message of the store, each after
-/// `count` lookups in it.
-fn fail_with_message(alloc: Global, store: &Failing, count: u64) -> bool {
-    is_offline(&entry_by_names(alloc, store))
-        && store.lookups() == count
-        && is_offline(&entry_by_path(alloc, store))
-        && store.lookups() == count.saturating_add(count)
-}
+const FILE_PATH: &[u8] = b"top/bak/test.txt";
 
 /// The lookups that fail if the store fails for the first entry on the path, or for the second, both times.
 /// With each, the number of lookups along the path.
 const FAILURES: &[(&'static [u64], u64)] = &[(&[1, 2], 1), (&[2, 4], 2)];
 
-/// Returns whether lookups in a store of two trees that fails in these lookups fail as [`fail_with_message`]
-/// says, and the next ones find the file.
-fn fail_and_find(alloc: Global, lookups: &'static [u64], count: u64) -> bool {
-    let Ok(objects) = two_trees(alloc) else {
-        return false;
-    };
-    let store = Failing::new(alloc, objects, lookups, &[]);
-    fail_with_message(alloc, &store, count)
-        && is_found(&entry_by_names(alloc, &store))
-        && is_found(&entry_by_path(alloc, &store))
-}
-
+/// The path `top` needs no lookup. A lookup by names and then one by a path fail with the message of the store,
+/// each after `count` lookups in it. The next ones find the file.
 #[test]
 fn returns_message_of_store_that_fails_on_path(rt: HostRuntime) {
+    let alloc = rt.alloc();
+    let file = Answer::Entry(EntryKind::Blob, id(VERSION_1));
+    let top = Answer::Entry(EntryKind::Tree, id(ROOT));
     for &(lookups, count) in FAILURES {
-        assert!(rt; fail_and_find(rt.alloc(), lookups, count), "{count}");
+        let store = Failing::new(alloc, stored_trees(alloc), lookups, &[]);
+        assert!(rt; at_path(alloc, &store, TOP, b"top", "top") == top);
+        assert!(rt; store.lookups() == 0);
+        assert!(rt; at_names(alloc, &store, TOP, FILE_NAMES) == Answer::Offline);
+        assert!(rt; store.lookups() == count);
+        let by_path = at_path(alloc, &store, TOP, FILE_PATH, "test.txt");
+        assert!(rt; by_path == Answer::Offline, "{count}");
+        assert!(rt; store.lookups() == count.saturating_add(count));
+        assert!(rt; at_names(alloc, &store, TOP, FILE_NAMES) == file);
+        let by_path = at_path(alloc, &store, TOP, FILE_PATH, "test.txt");
+        assert!(rt; by_path == file, "{count}");
     }
-}
-
-/// Two entries of one name, and a third after a malformed one.
-const TWICE: &[u8] =
-    b"100644 a\0aaaaaaaaaaaaaaaaaaaa40000 a\0bbbbbbbbbbbbbbbbbbbb!100644 c\0cccccccccccccccccccc";
-
-/// Returns the id of the entry at a path from the tree with these bytes, in a store.
-fn id_from<S: Find>(
-    alloc: Global,
-    store: &S,
-    tree: &[u8],
-    hash_kind: HashKind,
-    path: &[u8],
-) -> Option<ObjectId> {
-    match entry_from(alloc, store, tree, hash_kind, path) {
-        Ok(Some(entry)) => Some(entry.oid),
-        _ => None,
-    }
-}
-
-/// Of two entries of one name the first is found, and none after a malformed one.
-#[test]
-fn finds_first_of_two_and_none_after_damage(rt: HostRuntime) {
-    let store = Memory::new(rt.alloc());
-    let first = id_from(rt.alloc(), &store, TWICE, HashKind::Sha1, b"a");
-    assert!(rt; first == Some(id_of_bytes(b'a')));
-    assert!(rt; is_there_from(rt.alloc(), &store, TWICE, b"c") == Some(false));
-}
-
-/// A tree of one file, whose id has 32 bytes.
-const FILE_OF_SHA256: &[u8] = b"100644 b\0\
-    \x07\x07\x07\x07\x07\x07\x07\x07\x07\x07\x07\x07\x07\x07\x07\x07\
-    \x07\x07\x07\x07\x07\x07\x07\x07\x07\x07\x07\x07\x07\x07\x07\x07";
-
-/// A lookup along a path of trees with SHA-256 ids.
-#[test]
-fn finds_entry_by_sha256(rt: HostRuntime) {
-    let mut store = Memory::new(rt.alloc());
-    let below = store.insert(Kind::Tree, HashKind::Sha256, FILE_OF_SHA256);
-    let below = below.unwrap_or(id_of_bytes(1));
-    let mut encoding = Vec::new(rt.alloc());
-    assert!(rt; encoding.extend_from_slice(b"40000 a\0").is_ok());
-    assert!(rt; encoding.extend_from_slice(below.as_bytes()).is_ok());
-    let found = id_from(rt.alloc(), &store, &encoding, HashKind::Sha256, b"a/b");
-    assert!(rt; found == Some(ObjectId::Sha256([7; 32])));
 }
 
 /// Paths with their names: empty parts are skipped, and dots are names.

@@ -1,52 +1,30 @@
 //! A store that records the streams that are written into it.
 
-use bstr::BString;
-use gixobj_fields::stream_hash;
+use crate::samples::id_of_bytes;
+use gixobj_find::find::Never;
 use gixobj_find::{Write, write};
 use gixobj_hash::Kind;
-use gixobj_hash::hash::{Kind as HashKind, ObjectId};
+use gixobj_hash::hash::ObjectId;
 use std::alloc::Global;
-use std::cell::RefCell;
+use std::cell::Cell;
 use std::io::Read;
 
-/// A recorded stream: the kind, the declared size in bytes, and the bytes of the stream.
-#[derive(Debug, Drop, PartialEq, Eq)]
-pub(crate) struct Stream {
-    pub(crate) kind: Kind,
-    pub(crate) size: u64,
-    pub(crate) bytes: Vec<u8>,
-}
-
-/// A store that reads each stream to its end, records it, and returns the null id.
+/// A store that reads the declared size of each stream, and returns its id. It keeps only that id, and the
+/// number of streams.
 #[derive(Drop)]
 pub(crate) struct Recorder {
-    streams: RefCell<Vec<Stream>>,
+    /// The number of streams that were read.
+    pub(crate) streams: Cell<u64>,
+    /// The id of the last of them, of its kind, size and bytes.
+    pub(crate) last: Cell<ObjectId>,
 }
 
 impl Recorder {
-    /// Makes a store without streams.
-    pub(crate) fn new(alloc: Global) -> Recorder {
+    /// Makes a store that has read no stream.
+    pub(crate) fn new() -> Recorder {
         Recorder {
-            streams: RefCell::new(Vec::new(alloc)),
-        }
-    }
-
-    /// Returns whether the store has these streams, and no others.
-    pub(crate) fn has(&self, wanted: &[Stream]) -> bool {
-        match self.streams.try_borrow() {
-            Ok(streams) => streams.as_slice() == wanted,
-            Err(_) => false,
-        }
-    }
-
-    /// Records a stream.
-    fn keep(&self, stream: Stream) -> Result<(), write::Error> {
-        match self.streams.try_borrow_mut() {
-            Ok(mut streams) => match streams.push(stream) {
-                Ok(()) => Ok(()),
-                Err(_) => Err(write::Error::OutOfMemory),
-            },
-            Err(_) => Err(write::Error::OutOfMemory),
+            streams: Cell::new(0),
+            last: Cell::new(id_of_bytes(0)),
         }
     }
 }
@@ -76,13 +54,10 @@ impl Write for Recorder {
         size: u64,
         from: &mut R,
     ) -> Result<ObjectId, write::Error> {
-        let mut bytes = Vec::new(alloc);
-        match from.read_to_end(&mut bytes) {
-            Ok(_) => {}
-            Err(error) => return Err(write::Error::Read(stream_hash::Error::Io(error))),
-        }
-        self.keep(Stream { kind, size, bytes })?;
-        Ok(ObjectId::null(HashKind::Sha1))
+        let id = Never.write_stream(alloc, kind, size, from)?;
+        self.streams.set(self.streams.get().saturating_add(1));
+        self.last.set(id);
+        Ok(id)
     }
 
     fn write_stream_with_known_id<R: Read>(

@@ -14,6 +14,8 @@ pub(crate) const KINDS: [Kind; 4] = [Kind::Tree, Kind::Blob, Kind::Commit, Kind:
 pub(crate) const BAK: &[u8] = b"d8329fc1cc938780ffdd9f94e0d364e0ea74f579";
 /// The id of a tree of the tree [`BAK`] as `bak`, and of the files `new.txt` and `test.txt`.
 pub(crate) const ROOT: &[u8] = b"3c4e9cd789d88d8d89c1073707c3585e41b0e614";
+/// The id of the blob of `hello` and a newline.
+pub(crate) const HELLO: &[u8] = b"ce013625030ba8dba906f756967f9e9ca394464a";
 /// The id of the file in the tree [`BAK`].
 pub(crate) const VERSION_1: &[u8] = b"83baae61804e65cc73a7201a7252750c76066a30";
 
@@ -36,6 +38,16 @@ pub(crate) fn bytes_of(kind: Kind) -> &'static [u8] {
     }
 }
 
+/// The id of the encoding [`bytes_of`] this kind, as `git hash-object --literally -t` prints it.
+pub(crate) fn id_by_git(kind: Kind) -> ObjectId {
+    id(match kind {
+        Kind::Tree => b"8e43dfceb5d1999a2f88fe633708be28256420b6",
+        Kind::Blob => HELLO,
+        Kind::Commit => b"cefd86e1aa1b558d030fd8abbc32dbe09841cfaf",
+        Kind::Tag => b"a186d66b2e0052d5a3c9eb1c399f70b81963746d",
+    })
+}
+
 /// Decodes an id of hex digits; other bytes yield the null id.
 pub(crate) fn id(hex: &[u8]) -> ObjectId {
     ObjectId::from_hex(hex).unwrap_or(ObjectId::null(HashKind::Sha1))
@@ -55,7 +67,7 @@ pub(crate) fn is_id(answer: Result<ObjectId, write::Error>, wanted: ObjectId) ->
 }
 
 /// The encoding of the tree [`BAK`].
-const BAK_BYTES: &[u8] = b"100644 test.txt\0\
+pub(crate) const BAK_BYTES: &[u8] = b"100644 test.txt\0\
     \x83\xba\xae\x61\x80\x4e\x65\xcc\x73\xa7\x20\x1a\x72\x52\x75\x0c\x76\x06\x6a\x30";
 
 /// The encoding of the tree [`ROOT`].

@@ -1,77 +1,92 @@
 //! Lookups in stores that are borrowed, boxed or shared, and in one that fails.
 
 use crate::failing::Failing;
-use crate::samples::{BAK, ROOT, bytes_of, id, id_of_bytes, stored_trees};
+use crate::samples::{
+    BAK, BAK_BYTES, HELLO, ROOT, ROOT_BYTES, bytes_of, id, id_of_bytes, stored_trees,
+};
 use gixobj_find::find;
 use gixobj_hash::Kind;
 use gixobj_hash::hash::{Kind as HashKind, ObjectId};
-use gixobj_keep::Memory;
-use gixobj_store::{Exists, Find, FindHeader, FindObjectOrHeader};
+use gixobj_store::{Data, Exists, FindObjectOrHeader};
 use std::alloc::Global;
 use std::rc::Rc;
 
-/// Returns whether a store finds a tree of `size` bytes by the id.
-fn finds_tree<S: Find>(alloc: Global, store: &S, id: ObjectId, size: usize) -> bool {
-    let mut buffer = Vec::new(alloc);
-    match store.try_find(id.as_oid(), &mut buffer) {
-        Ok(Some(it)) => it.kind == Kind::Tree && it.bytes.len() == size,
-        _ => false,
-    }
-}
+/// The trees by the ids [`BAK`] and [`ROOT`].
+const TREES: &[(&[u8], &[u8])] = &[(BAK, BAK_BYTES), (ROOT, ROOT_BYTES)];
 
-/// Returns whether a store finds a tree of `size` bytes and its header by the id, and reports that it exists.
-fn has_tree<S: FindObjectOrHeader + Exists>(
+/// Returns whether a store finds this object and its header by the id, and reports that it exists.
+fn has_object<S: FindObjectOrHeader + Exists>(
     alloc: Global,
     store: &S,
     id: ObjectId,
-    size: usize,
+    wanted: Data<'_>,
 ) -> bool {
-    let is_header = match store.try_header(id.as_oid()) {
-        Ok(Some(it)) => it.kind == Kind::Tree && it.size == size as u64,
+    let is_header = match &store.try_header(id.as_oid()) {
+        Ok(Some(it)) => it.kind == wanted.kind && it.size == wanted.bytes.len() as u64,
         _ => false,
     };
-    is_header && finds_tree(alloc, store, id, size) && store.exists(id.as_oid())
+    let mut buffer = Vec::new(alloc);
+    let is_object = match &store.try_find(id.as_oid(), &mut buffer) {
+        Ok(Some(it)) => *it == wanted,
+        _ => false,
+    };
+    is_header && is_object && store.exists(id.as_oid())
 }
 
-/// Returns whether a store finds nothing by the id.
-fn finds_none<S: Find>(alloc: Global, store: &S, id: ObjectId) -> bool {
-    let mut buffer = Vec::new(alloc);
-    matches!(&store.try_find(id.as_oid(), &mut buffer), Ok(None))
+/// Returns whether a store finds the tree with these bytes, and its header, by this id of hex digits.
+fn has_tree<S: FindObjectOrHeader + Exists>(
+    alloc: Global,
+    store: &S,
+    hex: &[u8],
+    bytes: &[u8],
+) -> bool {
+    let tree = Data::new(bytes, Kind::Tree, HashKind::Sha1);
+    has_object(alloc, store, id(hex), tree)
 }
 
 /// Returns whether each of the three calls finds nothing by the id.
-fn has_none<S: FindObjectOrHeader + Exists>(alloc: Global, store: &S, id: ObjectId) -> bool {
-    let has_no_header = matches!(&store.try_header(id.as_oid()), Ok(None));
-    has_no_header && finds_none(alloc, store, id) && !store.exists(id.as_oid())
+pub(crate) fn has_none<S: FindObjectOrHeader + Exists>(
+    alloc: Global,
+    store: &S,
+    id: ObjectId,
+) -> bool {
+    let mut buffer = Vec::new(alloc);
+    matches!(&store.try_header(id.as_oid()), Ok(None))
+        && matches!(&store.try_find(id.as_oid(), &mut buffer), Ok(None))
+        && !store.exists(id.as_oid())
 }
 
-/// The ids of the trees are those that git computes.
+/// Two trees, a blob that is inserted twice, and a commit with SHA-256 ids. The ids of the first three are
+/// those that git computes.
 #[test]
-fn finds_trees_in_memory(rt: HostRuntime) {
-    let store = stored_trees(rt.alloc());
-    assert!(rt; has_tree(rt.alloc(), &store, id(BAK), 36));
-    assert!(rt; has_tree(rt.alloc(), &store, id(ROOT), 101));
-    assert!(rt; has_none(rt.alloc(), &store, id_of_bytes(1)));
+fn finds_objects_in_memory(rt: HostRuntime) {
+    let (alloc, mut store) = (rt.alloc(), stored_trees(rt.alloc()));
+    for &(hex, bytes) in TREES {
+        assert!(rt; has_tree(alloc, &store, hex, bytes), "{hex:?}");
+    }
+    let blob = Data::new(bytes_of(Kind::Blob), Kind::Blob, HashKind::Sha1);
+    let first = store.insert(blob.kind, blob.object_hash, blob.bytes);
+    let again = store.insert(blob.kind, blob.object_hash, blob.bytes);
+    assert!(rt; first.ok() == Some(id(HELLO)) && again.ok() == Some(id(HELLO)));
+    assert!(rt; has_object(alloc, &store, id(HELLO), blob));
+    let commit = Data::new(bytes_of(Kind::Commit), Kind::Commit, HashKind::Sha256);
+    let of_commit = store.insert(commit.kind, commit.object_hash, commit.bytes);
+    let of_commit = of_commit.unwrap_or(id_of_bytes(1));
+    assert!(rt; has_object(alloc, &store, of_commit, commit));
+    assert!(rt; has_none(alloc, &store, id_of_bytes(1)));
 }
 
 /// Returns whether a store has the tree [`BAK`], and no object by another id.
 fn has_first_tree<S: FindObjectOrHeader + Exists>(alloc: Global, store: &S) -> bool {
-    has_tree(alloc, store, id(BAK), 36) && has_none(alloc, store, id_of_bytes(1))
+    has_tree(alloc, store, BAK, BAK_BYTES) && has_none(alloc, store, id_of_bytes(1))
 }
 
-/// Returns whether a boxed store has the tree [`BAK`], and no object by another id.
-fn has_first_tree_in_box(alloc: Global) -> bool {
-    match &Box::new(alloc, stored_trees(alloc)) {
-        Ok(store) => has_first_tree(alloc, store),
-        Err(_) => false,
-    }
-}
-
-/// Returns whether a shared store has the tree [`BAK`], and no object by another id.
-fn has_first_tree_shared(alloc: Global) -> bool {
-    match &Rc::new(alloc, stored_trees(alloc)) {
-        Ok(store) => has_first_tree(alloc, store),
-        Err(_) => false,
+/// Returns whether a boxed and a shared store have the tree [`BAK`], and no object by another id.
+fn has_first_tree_boxed_and_shared(alloc: Global) -> bool {
+    let boxed = Box::new(alloc, stored_trees(alloc));
+    match (&boxed, &Rc::new(alloc, stored_trees(alloc))) {
+        (Ok(boxed), Ok(shared)) => has_first_tree(alloc, boxed) && has_first_tree(alloc, shared),
+        _ => false,
     }
 }
 
@@ -79,39 +94,7 @@ fn has_first_tree_shared(alloc: Global) -> bool {
 fn finds_tree_in_borrowed_boxed_and_shared_stores(rt: HostRuntime) {
     let alloc = rt.alloc();
     assert!(rt; has_first_tree(alloc, &&stored_trees(alloc)));
-    assert!(rt; has_first_tree_in_box(alloc));
-    assert!(rt; has_first_tree_shared(alloc));
-}
-
-/// The id that git computes of the blob `bytes_of(Kind::Blob)`.
-const HELLO: &[u8] = b"ce013625030ba8dba906f756967f9e9ca394464a";
-
-#[test]
-fn inserts_twice(rt: HostRuntime) {
-    let mut store = Memory::new(rt.alloc());
-    let first = store.insert(Kind::Blob, HashKind::Sha1, bytes_of(Kind::Blob));
-    assert!(rt; first.ok() == Some(id(HELLO)));
-    let again = store.insert(Kind::Blob, HashKind::Sha1, bytes_of(Kind::Blob));
-    assert!(rt; again.ok() == Some(id(HELLO)));
-    assert!(rt; store.exists(id(HELLO).as_oid()));
-}
-
-/// Returns whether a store finds a commit with SHA-256 ids.
-fn finds_commit_of_sha256<S: Find>(alloc: Global, store: &S, id: ObjectId) -> bool {
-    let mut buffer = Vec::new(alloc);
-    match store.try_find(id.as_oid(), &mut buffer) {
-        Ok(Some(it)) => { it.object_hash == HashKind::Sha256 && it.bytes == bytes_of(Kind::Commit) }
-        _ => false,
-    }
-}
-
-/// The hash kind of the ids in an object is kept.
-#[test]
-fn keeps_hash_kind_of_ids(rt: HostRuntime) {
-    let mut store = Memory::new(rt.alloc());
-    let id = store.insert(Kind::Commit, HashKind::Sha256, bytes_of(Kind::Commit));
-    let id = id.unwrap_or(id_of_bytes(1));
-    assert!(rt; finds_commit_of_sha256(rt.alloc(), &store, id));
+    assert!(rt; has_first_tree_boxed_and_shared(alloc));
 }
 
 /// Returns whether both lookups of a store fail for the id, and it reports that no object exists.
@@ -130,6 +113,6 @@ fn finds_tree_after_failed_calls(rt: HostRuntime) {
     let alloc = rt.alloc();
     let store = Failing::new(alloc, stored_trees(alloc), &[1, 2, 3], &[]);
     assert!(rt; fails(alloc, &store, id(BAK)));
-    assert!(rt; has_tree(alloc, &store, id(BAK), 36));
+    assert!(rt; has_tree(alloc, &store, BAK, BAK_BYTES));
     assert!(rt; store.lookups() == 6);
 }

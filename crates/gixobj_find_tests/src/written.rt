@@ -1,7 +1,7 @@
 //! Objects that are written into a store: each is one stream of its kind, size and bytes.
 
-use crate::recording::{Recorder, Stream};
-use crate::samples::{KINDS, bytes_of, id_of_bytes, is_id};
+use crate::recording::Recorder;
+use crate::samples::{KINDS, bytes_of, id, id_by_git, id_of_bytes, is_id};
 use bstr::BString;
 use gixobj_fields::{WriteTo, encode};
 use gixobj_find::{Write, write};
@@ -11,80 +11,139 @@ use gixobj_mode::EntryKind;
 use gixobj_object::ObjectRef;
 use gixobj_tree::tree::Entry;
 use gixobj_tree::{BlobRef, Tree};
-use std::alloc::{AllocError, Global};
+use std::alloc::Global;
 use std::rc::Rc;
 
-/// Builds the stream of an object of this kind and these bytes.
-fn stream(alloc: Global, kind: Kind, input: &[u8]) -> Result<Stream, AllocError> {
-    Ok(Stream {
-        kind,
-        size: input.len() as u64,
-        bytes: Vec::from_slice(alloc, input)?,
-    })
+/// What is passed to a call of [`Write`].
+#[derive(Clone, Copy, Debug)]
+pub(crate) enum Form {
+    Object,
+    Bytes,
+    Stream,
 }
 
-/// Returns whether a store has only the stream of this object.
-pub(crate) fn has_alone(alloc: Global, store: &Recorder, kind: Kind, input: &[u8]) -> bool {
-    match stream(alloc, kind, input) {
-        Ok(wanted) => store.has(&[wanted]),
+/// A call of [`Write`].
+pub(crate) struct Call {
+    pub(crate) form: Form,
+    pub(crate) kind: Kind,
+    pub(crate) bytes: &'static [u8],
+    /// The known id that is passed.
+    pub(crate) known: Option<ObjectId>,
+    /// The id that `git hash-object --literally -t` prints.
+    pub(crate) by_git: &'static [u8],
+}
+
+/// Each call of [`Write`].
+pub(crate) const CALLS: &[Call] = &[
+    Call {
+        form: Form::Bytes,
+        kind: Kind::Tag,
+        bytes: b"a",
+        known: None,
+        by_git: b"f2040f70b465f9575f0a52e3906c9426278b747d",
+    },
+    Call {
+        form: Form::Bytes,
+        kind: Kind::Blob,
+        bytes: b"bc",
+        known: Some(ObjectId::Sha1([1; 20])),
+        by_git: b"e5d8f44be26db0c31cbdaa99c83480c393780c82",
+    },
+    Call {
+        form: Form::Stream,
+        kind: Kind::Tree,
+        bytes: b"def",
+        known: Some(ObjectId::Sha1([2; 20])),
+        by_git: b"6923ea8f52259c975634fe10f3972eecc79a0d23",
+    },
+    Call {
+        form: Form::Stream,
+        kind: Kind::Commit,
+        bytes: b"g",
+        known: None,
+        by_git: b"84099fe91fefb009c6112508b3fd1e2fce271a16",
+    },
+    Call {
+        form: Form::Object,
+        kind: Kind::Blob,
+        bytes: b"hi",
+        known: None,
+        by_git: b"32f95c0d1244a78b2be1bab8de17906fabb2c4a8",
+    },
+];
+
+/// Returns whether a store returns the known id for this call, or else git's.
+pub(crate) fn returns_id<W: Write>(alloc: Global, store: &W, call: &Call) -> bool {
+    let (kind, bytes, mut stream) = (call.kind, call.bytes, call.bytes);
+    let size = bytes.len() as u64;
+    let answer = match (call.form, call.known) {
+        (Form::Object, _) => store.write(alloc, &BlobRef::from_bytes(bytes)),
+        (Form::Bytes, None) => store.write_buf(alloc, kind, bytes),
+        (Form::Bytes, Some(known)) => store.write_buf_with_known_id(alloc, kind, bytes, known),
+        (Form::Stream, None) => store.write_stream(alloc, kind, size, &mut stream),
+        (Form::Stream, Some(known)) => {
+            store.write_stream_with_known_id(alloc, kind, size, &mut stream, known)
+        }
+    };
+    is_id(answer, call.known.unwrap_or(id(call.by_git)))
+}
+
+/// Each call of [`Write`] writes one stream through a borrow of a store.
+#[test]
+fn writes_to_borrowed_store(rt: HostRuntime) {
+    let store = Recorder::new();
+    for call in CALLS {
+        assert!(rt; returns_id(rt.alloc(), &&store, call), "{:?}", call.bytes);
+        assert!(rt; store.last.get() == id(call.by_git), "{:?}", call.bytes);
+    }
+    assert!(rt; store.streams.get() == 5);
+}
+
+/// Returns whether this call writes one stream into a shared store.
+fn is_written_shared(alloc: Global, call: &Call) -> bool {
+    match &Rc::new(alloc, Recorder::new()) {
+        Ok(store) => {
+            returns_id(alloc, store, call)
+                && store.last.get() == id(call.by_git)
+                && store.streams.get() == 1
+        }
         Err(_) => false,
     }
 }
 
-/// Returns whether an object of this kind is written into a store as one stream.
+#[test]
+fn writes_to_shared_store(rt: HostRuntime) {
+    for call in CALLS {
+        assert!(rt; is_written_shared(rt.alloc(), call), "{:?}", call.bytes);
+    }
+}
+
+/// Returns whether the object of this kind is written into a store as one stream.
 fn is_written<T: WriteTo>(alloc: Global, object: &T, kind: Kind) -> bool
     requires { T.can_write object.now }
 {
-    let store = Recorder::new(alloc);
-    match store.write(alloc, object) {
-        Ok(id) => id.is_null() && has_alone(alloc, &store, kind, bytes_of(kind)),
-        Err(_) => false,
-    }
+    let store = Recorder::new();
+    is_id(store.write(alloc, object), id_by_git(kind)) && store.streams.get() == 1
 }
 
-/// Returns whether the borrowed object of this kind is written into a store as one stream.
-fn is_borrowed_written(alloc: Global, kind: Kind) -> bool {
-    match ObjectRef::from_bytes(alloc, bytes_of(kind), kind, HashKind::Sha1) {
-        Ok(object) => is_written(alloc, &object, kind),
-        Err(_) => false,
-    }
-}
-
-#[test]
-fn writes_borrowed_objects(rt: HostRuntime) {
-    for kind in KINDS {
-        assert!(rt; is_borrowed_written(rt.alloc(), kind), "{kind:?}");
-    }
-}
-
-/// Returns whether an object of this kind is written into a shared store as one stream.
-fn is_written_shared<T: WriteTo>(alloc: Global, object: &T, kind: Kind) -> bool
-    requires { T.can_write object.now }
-{
-    let Ok(store) = Rc::new(alloc, Recorder::new(alloc)) else {
-        return false;
-    };
-    match store.write(alloc, object) {
-        Ok(id) => id.is_null() && has_alone(alloc, &store, kind, bytes_of(kind)),
-        Err(_) => false,
-    }
-}
-
-/// Returns whether the owned object of this kind is written into a shared store as one stream.
-fn is_owned_written(alloc: Global, kind: Kind) -> bool {
+/// Returns whether the borrowed and then the owned object of this kind are written as one stream each.
+fn are_written(alloc: Global, kind: Kind) -> bool {
     let Ok(object) = ObjectRef::from_bytes(alloc, bytes_of(kind), kind, HashKind::Sha1) else {
         return false;
     };
+    if !is_written(alloc, &object, kind) {
+        return false;
+    }
     match object.into_owned(alloc) {
-        Ok(object) => is_written_shared(alloc, &object, kind),
+        Ok(owned) => is_written(alloc, &owned, kind),
         Err(_) => false,
     }
 }
 
 #[test]
-fn writes_owned_objects(rt: HostRuntime) {
+fn writes_borrowed_and_owned_objects(rt: HostRuntime) {
     for kind in KINDS {
-        assert!(rt; is_owned_written(rt.alloc(), kind), "{kind:?}");
+        assert!(rt; are_written(rt.alloc(), kind), "{kind:?}");
     }
 }
 
@@ -100,77 +159,15 @@ fn unwritable(alloc: Global) -> Tree {
     Tree { entries }
 }
 
-/// Returns whether a tree fails for the name of an entry, and the store has no stream.
-fn is_rejected(alloc: Global, tree: &Tree) -> bool {
-    let store = Recorder::new(alloc);
-    match store.write(alloc, tree) {
-        Err(write::Error::Encode(encode::Error::NullbyteInFilename { .. })) => store.has(&[]),
-        _ => false,
-    }
-}
-
+/// A tree fails for the name of an entry, and the store has no stream.
 #[test]
 fn writes_nothing_of_tree_with_invalid_name(rt: HostRuntime) {
-    assert!(rt; is_rejected(rt.alloc(), &unwritable(rt.alloc())));
-}
-
-/// The kinds and bytes of two writes of bytes, of two writes of streams, and of a blob.
-const WRITES: &[(Kind, &[u8])] = &[
-    (Kind::Tag, b"a"),
-    (Kind::Blob, b"bc"),
-    (Kind::Tree, b"def"),
-    (Kind::Commit, b"g"),
-    (Kind::Blob, b"hi"),
-];
-
-/// The streams of these writes.
-fn streams(alloc: Global) -> Result<Vec<Stream>, AllocError> {
-    let mut streams = Vec::new(alloc);
-    for &(kind, bytes) in WRITES {
-        streams.push(stream(alloc, kind, bytes)?)?;
-    }
-    Ok(streams)
-}
-
-/// Returns whether a store has these streams.
-fn has_streams(alloc: Global, store: &Recorder) -> bool {
-    match streams(alloc) {
-        Ok(wanted) => store.has(&wanted),
-        Err(_) => false,
-    }
-}
-
-/// Returns whether a store returns the null id for bytes, and the known id for bytes of a known id.
-fn returns_ids_of_bytes<W: Write>(alloc: Global, store: &W) -> bool {
-    let known = id_of_bytes(1);
-    let plain = store.write_buf(alloc, Kind::Tag, b"a");
-    let with_id = store.write_buf_with_known_id(alloc, Kind::Blob, b"bc", known);
-    is_id(plain, ObjectId::null(HashKind::Sha1)) && is_id(with_id, known)
-}
-
-/// Returns whether a store returns the null id for a stream, and the known id for a stream of a known id.
-fn returns_ids_of_streams<W: Write>(alloc: Global, store: &W) -> bool {
-    let known = id_of_bytes(1);
-    let mut stream = b"def".as_slice();
-    let with_id = store.write_stream_with_known_id(alloc, Kind::Tree, 3, &mut stream, known);
-    let mut stream = b"g".as_slice();
-    let plain = store.write_stream(alloc, Kind::Commit, 1, &mut stream);
-    is_id(plain, ObjectId::null(HashKind::Sha1)) && is_id(with_id, known)
-}
-
-/// Returns whether a store returns the null id for an object.
-fn returns_id_of_blob<W: Write>(alloc: Global, store: &W) -> bool {
-    let blob = BlobRef::from_bytes(b"hi");
-    is_id(store.write(alloc, &blob), ObjectId::null(HashKind::Sha1))
-}
-
-/// Each call of [`Write`] writes through a borrow of a store.
-#[test]
-fn writes_to_borrowed_store(rt: HostRuntime) {
-    let alloc = rt.alloc();
-    let store = Recorder::new(alloc);
-    assert!(rt; returns_ids_of_bytes(alloc, &&store));
-    assert!(rt; returns_ids_of_streams(alloc, &&store));
-    assert!(rt; returns_id_of_blob(alloc, &&store));
-    assert!(rt; has_streams(alloc, &store));
+    let store = Recorder::new();
+    assert!(rt;
+        matches!(
+            &store.write(rt.alloc(), &unwritable(rt.alloc())),
+            Err(write::Error::Encode(encode::Error::NullbyteInFilename { .. }))
+        )
+    );
+    assert!(rt; store.streams.get() == 0);
 }
