@@ -141,20 +141,15 @@ impl Maker {
     pub(crate) fn arguments(&mut self, notation: &str) -> Vec<Word> {
         let mut arguments = Vec::new(self.alloc);
         for argument in notation.split(' ') {
-            let argument = self.argument(argument);
+            let argument = match argument {
+                "@0" => Word::File(0),
+                "@1" => Word::File(1),
+                "@time" => Word::VerifyTime(time()),
+                _ => Word::Text(self.bstring(argument.as_bytes())),
+            };
             self.append(&mut arguments, argument);
         }
         arguments
-    }
-
-    /// Parses an argument of a row.
-    fn argument(&mut self, notation: &str) -> Word {
-        match notation {
-            "@0" => Word::File(0),
-            "@1" => Word::File(1),
-            "@time" => Word::VerifyTime(time()),
-            _ => Word::Text(self.bstring(notation.as_bytes())),
-        }
     }
 
     /// Appends an expected call to those of a runner.
@@ -188,40 +183,22 @@ impl Maker {
     }
 
     /// Returns the answer of a runner.
-    fn answer(&mut self, answer: ScriptedAnswer) -> Result<Output, RunError> {
+    pub(crate) fn answer(&mut self, answer: ScriptedAnswer) -> Result<Output, RunError> {
         match answer {
-            ScriptedAnswer::Ran(success, stdout, stderr, result_file) => {
-                Ok(self.output(success, stdout, stderr, result_file))
-            }
+            ScriptedAnswer::Ran(success, stdout, stderr, result_file) => Ok(Output {
+                success,
+                stdout: self.bytes(stdout),
+                stderr: self.bytes(stderr),
+                result: match result_file {
+                    Some(bytes) => Some(self.bytes(bytes)),
+                    None => None,
+                },
+            }),
             ScriptedAnswer::NoFile => Err(RunError::TemporaryFile(self.bstring(WHY))),
             ScriptedAnswer::NotStarted => Err(RunError::Spawn(self.bstring(WHY))),
             ScriptedAnswer::NoCommunication => Err(RunError::Communicate(self.bstring(WHY))),
             ScriptedAnswer::NoTime => Err(RunError::CommitTime(self.bstring(WHY))),
             ScriptedAnswer::NoMemory => Err(RunError::OutOfMemory),
-        }
-    }
-
-    /// Returns the output of a program that ran.
-    pub(crate) fn output(
-        &mut self,
-        success: bool,
-        stdout: &[u8],
-        stderr: &[u8],
-        result_file: Option<&[u8]>,
-    ) -> Output {
-        Output {
-            success,
-            stdout: self.bytes(stdout),
-            stderr: self.bytes(stderr),
-            result: self.bytes_if_some(result_file),
-        }
-    }
-
-    /// Returns an owned copy of bytes, if there are any.
-    fn bytes_if_some(&mut self, bytes: Option<&[u8]>) -> Option<Vec<u8>> {
-        match bytes {
-            Some(bytes) => Some(self.bytes(bytes)),
-            None => None,
         }
     }
 }

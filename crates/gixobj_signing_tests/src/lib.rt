@@ -7,8 +7,6 @@ mod calls;
 mod commits;
 #[cfg(test)]
 mod objects;
-#[cfg(test)]
-mod reports;
 pub mod scripted;
 #[cfg(test)]
 mod signature;

@@ -6,30 +6,31 @@ use crate::signing::name_of;
 use gixobj_fields::{WriteTo, encode};
 use gixobj_hash::decode;
 use gixobj_hash::hash::Kind;
+use gixobj_signature::signature::SignedData;
 use gixobj_signature::signature::sign::{Error, Options};
 use gixobj_text::signature::Format;
 use std::alloc::Global;
 
 /// A row of an object to be signed.
 #[derive(Clone, Copy)]
-pub(crate) struct Row {
+pub(crate) struct Row<'a> {
     /// The encoding of the object.
-    pub(crate) encoding: &'static [u8],
+    pub(crate) encoding: &'a [u8],
     /// The kind of its ids.
     pub(crate) hash: Kind,
     /// The name of the key.
     pub(crate) key: &'static [u8],
     /// The input of the one call, and its scripted answer; `None` if no call is made.
-    pub(crate) call: Option<(&'static [u8], ScriptedAnswer)>,
+    pub(crate) call: Option<(&'a [u8], ScriptedAnswer)>,
     /// The expected outcome.
-    pub(crate) outcome: Outcome,
+    pub(crate) outcome: Outcome<'a>,
 }
 
-/// The outcome of signing an object.
+/// The outcome of signing bytes or an object.
 #[derive(Clone, Copy)]
-pub(crate) enum Outcome {
-    /// An object with this encoding.
-    Encoding(&'static [u8]),
+pub(crate) enum Outcome<'a> {
+    /// A signature of these bytes, or an object with this encoding.
+    Bytes(&'a [u8]),
     /// The error of this name.
     Error(&'static str),
 }
@@ -58,58 +59,48 @@ pub(crate) fn gpg_call(payload: &[u8], answer: ScriptedAnswer) -> Step<'_> {
     }
 }
 
-/// Returns the runner that expects the call to sign these bytes with the key `K`, and no other.
-pub(crate) fn runner_of(maker: &mut Maker, payload: &[u8], answer: ScriptedAnswer) -> Played {
-    maker.runner(&[gpg_call(payload, answer)])
-}
-
-/// Returns the runner that expects the call of a row, if it makes one.
-pub(crate) fn runner_of_row(maker: &mut Maker, row: &Row) -> Played {
+/// Returns the runner that expects the call of a row, if it makes one, and no other.
+pub(crate) fn runner_of_row(maker: &mut Maker, row: &Row<'_>) -> Played {
     match row.call {
-        Some((payload, answer)) => runner_of(maker, payload, answer),
+        Some((payload, answer)) => maker.runner(&[gpg_call(payload, answer)]),
         None => maker.runner(&[]),
     }
 }
 
-/// Returns whether no allocation failed and all expected calls were made.
-pub(crate) fn is_over(maker: &Maker, runner: &Played) -> bool {
-    !maker.is_failed && runner.steps.is_empty()
-}
-
-/// Returns whether the outcome is this encoding.
-fn is_encoding(encoding: &[u8], outcome: Outcome) -> bool {
-    match outcome {
-        Outcome::Encoding(expected) => encoding == expected,
-        Outcome::Error(_) => false,
+/// Returns the answer, or false if an expected call wasn't made; `None` if memory ran out before it.
+pub(crate) fn after_calls(answer: Option<bool>, maker: &Maker, runner: &Played) -> Option<bool> {
+    match answer {
+        Some(is_right) if !maker.is_failed => Some(is_right && runner.steps.is_empty()),
+        _ => None,
     }
 }
 
-/// Returns whether the outcome is the encoding of this signed object, or the error of writing it.
-pub(crate) fn is_object<T: WriteTo>(alloc: Global, object: &T, outcome: Outcome) -> bool
+/// Returns whether the outcome is the encoding of this signed object, or the error of writing it; `None` if
+/// memory runs out.
+pub(crate) fn is_object<T: WriteTo>(alloc: Global, object: &T, outcome: Outcome<'_>) -> Option<bool>
     requires { T.can_write object.now }
 {
     let mut encoding = Vec::new(alloc);
     match object.write_to(alloc, &mut encoding) {
-        Ok(()) => is_encoding(&encoding, outcome),
+        Ok(()) => Some(matches!(outcome, Outcome::Bytes(wanted) if wanted == encoding.as_slice())),
         Err(error) => is_error_of(&Error::Encode(error), outcome),
     }
 }
 
-/// Returns whether the outcome is this error.
-pub(crate) fn is_error_of(error: &Error, outcome: Outcome) -> bool {
-    match outcome {
-        Outcome::Error(expected) => name_of_all(error) == expected,
-        Outcome::Encoding(_) => false,
+/// Returns whether the outcome is this error; `None` if memory ran out in the call, a copy or a writer.
+pub(crate) fn is_error_of(error: &Error, outcome: Outcome<'_>) -> Option<bool> {
+    match error {
+        Error::OutOfMemory
+        | Error::Decode(decode::Error::OutOfMemory)
+        | Error::Encode(encode::Error::Writer(_)) => None,
+        _ => Some(matches!(outcome, Outcome::Error(name) if name_of(error) == name)),
     }
 }
 
-/// Returns the name of an error, or of its cause if the error comes before any call.
-fn name_of_all(error: &Error) -> &'static str {
-    match error {
-        Error::Decode(decode::Error::Malformed) => "Malformed",
-        Error::Encode(encode::Error::IllegalActor) => "IllegalActor",
-        Error::Encode(encode::Error::EmptyValue) => "EmptyValue",
-        Error::Encode(encode::Error::StartsWithDash) => "StartsWithDash",
-        _ => name_of(error),
+/// Returns whether signed data are these bytes; `None` if memory runs out.
+pub(crate) fn has_bytes(alloc: Global, data: &SignedData<'_>, bytes: &[u8]) -> Option<bool> {
+    match data.to_bstring(alloc) {
+        Ok(copy) => Some(copy.as_bytes() == bytes),
+        Err(_) => None,
     }
 }

@@ -1,93 +1,21 @@
-//! Commits and tags signed by a scripted program: the one call, its outcome, failed allocations, and the
-//! signature found in the result.
+//! Commits and tags signed by a scripted program: a long commit, failed allocations, and the signature found in
+//! the result. Copies of options, calls and outcomes.
 
 use crate::calls::{Maker, ScriptedAnswer};
-use crate::commits::{PLAIN, SIGNED};
-use crate::objects::{gpg, gpg_call, runner_of};
-use crate::scripted::Played;
+use crate::commits::{Form, Found, PLAIN, SIGNED, is_found, of_commit};
+use crate::objects::{Outcome, Row, gpg, gpg_call};
 use crate::signing::CREATED;
+use crate::tags::{is_tag_signature, of_tag};
 use crate::verifying::options_of;
 use bstr::BString;
-use gixobj_commit::{Commit, CommitRef};
-use gixobj_fields::{WriteTo, encode};
-use gixobj_hash::hash::Kind;
-use gixobj_hash::{OutOfMemory, decode};
-use gixobj_ref_iter::{CommitRefIter, TagRefIter};
+use gixobj_hash::hash::Kind::Sha1;
 use gixobj_signature::signature::report::{TrustLevel, parse_ssh_output};
-use gixobj_signature::signature::sign::{Error, Options};
 use gixobj_signature::signature::verify;
-use gixobj_tag::{Tag, TagRef};
 use gixobj_text::signature::Format;
 use std::alloc::{AllocError, Global};
 
-/// Classifies a signing error: `None` if memory ran out in the call, a copy or a writer.
-fn of_error(error: &Error) -> Option<bool> {
-    match error {
-        Error::OutOfMemory
-        | Error::Decode(decode::Error::OutOfMemory)
-        | Error::Encode(encode::Error::Writer(_)) => None,
-        _ => Some(false),
-    }
-}
-
-/// Returns the bytes written of a signed object; `None` if memory runs out.
-fn written<T: WriteTo>(alloc: Global, object: &T) -> Option<Vec<u8>>
-    requires { T.can_write object.now }
-{
-    let mut out = Vec::new(alloc);
-    match object.write_to(alloc, &mut out) {
-        Ok(()) => Some(out),
-        Err(_) => None,
-    }
-}
-
-/// Returns whether a signed commit has this encoding; `None` if memory runs out.
-fn is_written(alloc: Global, commit: &Commit, wanted: &[u8]) -> Option<bool> {
-    match written(alloc, commit) {
-        Some(out) => Some(out.as_slice() == wanted),
-        None => None,
-    }
-}
-
-/// Returns whether a commit is signed with this encoding; `None` if memory runs out.
-fn of_signed_commit(alloc: Global, signed: &Result<Commit, Error>, wanted: &[u8]) -> Option<bool> {
-    match signed {
-        Ok(commit) => is_written(alloc, commit, wanted),
-        Err(error) => of_error(error),
-    }
-}
-
-/// Returns whether this runner signs a decoded commit as wanted; `None` if memory runs out.
-fn of_read_commit(
-    maker: &mut Maker,
-    bytes: &[u8],
-    runner: &mut Played,
-    wanted: &[u8],
-) -> Option<bool> {
-    let alloc = maker.alloc;
-    let options = gpg(maker, b"K");
-    match CommitRef::from_bytes(alloc, bytes, Kind::Sha1) {
-        Ok(commit) => of_signed_commit(alloc, &commit.sign(alloc, options, runner), wanted),
-        Err(_) => None,
-    }
-}
-
-/// Returns the answer, or false without the expected call; `None` if memory ran out before it.
-fn after_expected_call(answer: Option<bool>, maker: &Maker, runner: &Played) -> Option<bool> {
-    match answer {
-        Some(is_right) if !maker.is_failed => Some(is_right && runner.steps.is_empty()),
-        _ => None,
-    }
-}
-
-/// Returns whether a commit is signed and written as wanted; `None` if memory runs out.
-fn of_commit(alloc: Global, bytes: &[u8], wanted: &[u8]) -> Option<bool> {
-    let mut maker = Maker::new(alloc);
-    let answer = ScriptedAnswer::Ran(true, b"A\r\nB\r\n", CREATED, None);
-    let mut runner = runner_of(&mut maker, bytes, answer);
-    let answer = of_read_commit(&mut maker, bytes, &mut runner, wanted);
-    after_expected_call(answer, &maker, &runner)
-}
+/// The answer of a program that signs a commit.
+const SIGNS: ScriptedAnswer = ScriptedAnswer::Ran(true, b"A\r\nB\r\n", CREATED, None);
 
 /// Returns a commit with a thousand parents, a thousand headers of two lines, and then these headers.
 fn long_commit(alloc: Global, headers: &str) -> Result<String, AllocError> {
@@ -98,19 +26,24 @@ fn long_commit(alloc: Global, headers: &str) -> Result<String, AllocError> {
     format!(in alloc; "{tree}{parents}{actors}{lines}{headers}\nhi\n")
 }
 
-/// Returns whether a commit is signed in `len` bytes, with the signature before its message.
-fn is_signed_in(alloc: Global, commit: &str, signed: &str, len: usize) -> bool {
-    signed.len() == len && of_commit(alloc, commit.as_bytes(), signed.as_bytes()) == Some(true)
-}
-
-/// Returns whether a commit of many parents and headers is signed, and written in `len` bytes.
+/// Returns whether a commit of many parents and headers is signed, and written in `len` bytes, with the
+/// signature before its message.
 fn is_long_commit_signed_in(alloc: Global, len: usize) -> bool {
-    let Ok(commit) = long_commit(alloc, "") else {
-        return false;
-    };
-    match long_commit(alloc, "gpgsig A\n B\n") {
-        Ok(signed) => is_signed_in(alloc, commit.as_str(), signed.as_str(), len),
-        Err(_) => false,
+    match (
+        &long_commit(alloc, ""),
+        &long_commit(alloc, "gpgsig A\n B\n"),
+    ) {
+        (Ok(commit), Ok(signed)) => {
+            let row = Row {
+                encoding: commit.as_bytes(),
+                hash: Sha1,
+                key: b"K",
+                call: Some((commit.as_bytes(), SIGNS)),
+                outcome: Outcome::Bytes(signed.as_bytes()),
+            };
+            signed.len() == len && of_commit(alloc, &row, Form::Decoded) == Some(true)
+        }
+        _ => false,
     }
 }
 
@@ -120,102 +53,74 @@ fn signs_commit_of_many_headers(rt: HostRuntime) {
     assert!(rt; is_long_commit_signed_in(rt.alloc(), 55_111));
 }
 
+/// The plain commit, and its outcome.
+const COMMIT: &Row<'static> = &Row {
+    encoding: PLAIN,
+    hash: Sha1,
+    key: b"K",
+    call: Some((PLAIN, SIGNS)),
+    outcome: Outcome::Bytes(SIGNED),
+};
+
 #[test]
 fn signs_commit_whatever_allocation_fails(rt: HostRuntime) {
-    let mut answer = of_commit(rt.alloc(), PLAIN, SIGNED);
+    let mut answer = of_commit(rt.alloc(), COMMIT, Form::Decoded);
     if answer.is_none() {
-        answer = of_commit(rt.alloc(), PLAIN, SIGNED);
+        answer = of_commit(rt.alloc(), COMMIT, Form::Decoded);
     }
     assert!(rt; answer == Some(true));
 }
 
-/// Returns whether the signed commit has its signature, and the bytes that it signs; `None` if memory runs out.
-fn of_signature(alloc: Global) -> Option<bool> {
-    match CommitRefIter::signature(alloc, SIGNED, Kind::Sha1) {
-        Ok(Some((value, signed))) => match signed.to_bstring(alloc) {
-            Ok(bytes) => {
-                Some(value.as_slice() == b"A\nB\n".as_slice() && bytes.as_bytes() == PLAIN)
-            }
-            Err(OutOfMemory) => None,
-        },
-        Ok(None) | Err(decode::Error::Malformed) => Some(false),
-        Err(decode::Error::OutOfMemory) => None,
-    }
-}
-
+/// The signed commit has its signature, and the bytes that it signs.
 #[test]
 fn finds_signature_whatever_allocation_fails(rt: HostRuntime) {
-    let mut answer = of_signature(rt.alloc());
+    let expected = Found::Signature(b"A\nB\n", PLAIN);
+    let mut answer = is_found(rt.alloc(), SIGNED, Sha1, expected);
     if answer.is_none() {
-        answer = of_signature(rt.alloc());
+        answer = is_found(rt.alloc(), SIGNED, Sha1, expected);
     }
     assert!(rt; answer == Some(true));
 }
 
-/// A tag with a message.
-const TAG: &[u8] = b"object 4b825dc642cb6eb9a060e54bf8d69288fbee4904\ntype tree\ntag v1\n\nhi\n";
-
-/// The bytes that are signed of the tag, with one more newline.
+/// The bytes that are signed of a tag with a message: the tag, and one more newline.
 const PAYLOAD: &[u8] =
     b"object 4b825dc642cb6eb9a060e54bf8d69288fbee4904\ntype tree\ntag v1\n\nhi\n\n";
 
-/// The signature that the program writes for a tag.
+/// The signature that the program writes for the tag.
 const SIGNATURE: &[u8] = b"-----BEGIN PGP SIGNATURE-----\nA\n";
 
-/// Returns whether an encoding ends in `SIGNATURE`, which signs `PAYLOAD`; `None` if memory runs out.
-fn is_signed(alloc: Global, bytes: &[u8]) -> Option<bool> {
-    let Some((signature, signed)) = TagRefIter::signature(bytes) else {
-        return Some(false);
-    };
-    match signed.to_bstring(alloc) {
-        Ok(signed) => {
-            Some(signature.bytes.as_bytes() == SIGNATURE && signed.as_bytes() == PAYLOAD)
-        }
-        Err(OutOfMemory) => None,
-    }
-}
+/// The signed tag.
+const SIGNED_TAG: &[u8] = b"object 4b825dc642cb6eb9a060e54bf8d69288fbee4904\n\
+    type tree\n\
+    tag v1\n\
+    \n\
+    hi\n\
+    \n\
+    -----BEGIN PGP SIGNATURE-----\n\
+    A\n";
 
-/// Returns whether a signed tag is written as `PAYLOAD` and its signature; `None` if memory runs out.
-fn is_tag_written(alloc: Global, tag: &Tag) -> Option<bool> {
-    match written(alloc, tag) {
-        Some(out) if out.len() == PAYLOAD.len() + SIGNATURE.len() => is_signed(alloc, &out),
-        Some(_) => Some(false),
-        None => None,
-    }
-}
+/// The tag, and its outcome.
+const TAG: &Row<'static> = &Row {
+    encoding: b"object 4b825dc642cb6eb9a060e54bf8d69288fbee4904\ntype tree\ntag v1\n\nhi\n",
+    hash: Sha1,
+    key: b"K",
+    call: Some((PAYLOAD, ScriptedAnswer::Ran(true, SIGNATURE, CREATED, None))),
+    outcome: Outcome::Bytes(SIGNED_TAG),
+};
 
-/// Returns whether signing made a tag with the expected signature; `None` if memory runs out.
-fn of_signed_tag(alloc: Global, signed: &Result<Tag, Error>) -> Option<bool> {
-    match signed {
-        Ok(tag) => is_tag_written(alloc, tag),
-        Err(error) => of_error(error),
+/// Signs the tag, and then finds its signature; `None` if memory runs out.
+fn of_tag_and_signature(alloc: Global) -> Option<bool> {
+    match of_tag(alloc, TAG, false) {
+        Some(true) => is_tag_signature(alloc, SIGNED_TAG, Some((SIGNATURE, PAYLOAD))),
+        answer => answer,
     }
-}
-
-/// Returns whether this runner signs the decoded tag as expected; `None` if memory runs out.
-fn of_read_tag(maker: &mut Maker, runner: &mut Played) -> Option<bool> {
-    let alloc = maker.alloc;
-    let options = gpg(maker, b"K");
-    match TagRef::from_bytes(TAG, Kind::Sha1) {
-        Ok(tag) => of_signed_tag(alloc, &tag.sign(alloc, options, runner)),
-        Err(_) => None,
-    }
-}
-
-/// Returns whether the tag is signed and written, and its signature then found; `None` if memory runs out.
-fn of_tag(alloc: Global) -> Option<bool> {
-    let mut maker = Maker::new(alloc);
-    let answer = ScriptedAnswer::Ran(true, SIGNATURE, CREATED, None);
-    let mut runner = runner_of(&mut maker, PAYLOAD, answer);
-    let answer = of_read_tag(&mut maker, &mut runner);
-    after_expected_call(answer, &maker, &runner)
 }
 
 #[test]
 fn signs_tag_whatever_allocation_fails(rt: HostRuntime) {
-    let mut answer = of_tag(rt.alloc());
+    let mut answer = of_tag_and_signature(rt.alloc());
     if answer.is_none() {
-        answer = of_tag(rt.alloc());
+        answer = of_tag_and_signature(rt.alloc());
     }
     assert!(rt; answer == Some(true));
 }
@@ -228,43 +133,36 @@ fn is_copied<T: Clone + PartialEq + Drop>(value: &T) -> bool {
     }
 }
 
-/// Returns whether a clone of the OpenPGP verifying options is for OpenPGP.
-fn is_verifying_copied(options: &verify::Options) -> bool {
-    match options.clone() {
-        Ok(copy) => matches!(&copy, verify::Options::OpenPgp { .. }),
-        Err(_) => false,
-    }
-}
-
 /// Returns whether a clone of the outcome for this output of a program equals it.
 fn is_outcome_copied(alloc: Global, output: BString) -> bool {
-    match parse_ssh_output(alloc, output, None, TrustLevel::Undefined) {
-        Ok(outcome) => is_copied(&outcome),
+    match &parse_ssh_output(alloc, output, None, TrustLevel::Undefined) {
+        Ok(outcome) => is_copied(outcome),
         Err(_) => false,
     }
 }
 
-/// Returns whether a clone of signing options has their key.
-fn is_signing_copied(options: &Options) -> bool {
-    match options.clone() {
-        Ok(copy) => copy.signing_key == options.signing_key,
-        Err(_) => false,
+/// Returns whether a clone of signing options has their key, and one of the OpenPGP verifying options is for
+/// OpenPGP.
+fn are_options_copied(maker: &mut Maker) -> bool {
+    let signing = gpg(maker, b"K");
+    let verifying = options_of(maker, (Format::OpenPgp, TrustLevel::Fully, None));
+    let signing: Result<_, _> = signing.clone();
+    let verifying: Result<_, _> = verifying.clone();
+    match (&signing, &verifying) {
+        (Ok(signing), Ok(verify::Options::OpenPgp { .. })) => {
+            signing.signing_key.as_bytes() == b"K".as_slice()
+        }
+        _ => false,
     }
-}
-
-/// Returns whether clones of a call and of an output equal them.
-fn are_call_and_output_copied(maker: &mut Maker) -> bool {
-    let step = gpg_call(b"payload", ScriptedAnswer::NoTime);
-    is_copied(&maker.call(&step)) && is_copied(&maker.output(true, b"A", b"", Some(b"B")))
 }
 
 #[test]
 fn clones_options_calls_and_outcomes(rt: HostRuntime) {
     let mut maker = Maker::new(rt.alloc());
-    assert!(rt; is_signing_copied(&gpg(&mut maker, b"K")));
-    assert!(rt; are_call_and_output_copied(&mut maker));
+    assert!(rt; are_options_copied(&mut maker));
+    assert!(rt; is_copied(&maker.call(&gpg_call(b"payload", ScriptedAnswer::NoTime))));
+    let output = ScriptedAnswer::Ran(true, b"A", b"", Some(b"B"));
+    assert!(rt; matches!(&maker.answer(output), Ok(output) if is_copied(output)));
     assert!(rt; is_outcome_copied(rt.alloc(), maker.bstring(b"invalid signature")));
-    let how = (Format::OpenPgp, TrustLevel::Fully, None);
-    assert!(rt; is_verifying_copied(&options_of(&mut maker, how)));
     assert!(rt; !maker.is_failed);
 }

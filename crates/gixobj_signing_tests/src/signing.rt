@@ -1,37 +1,29 @@
 //! Signing: the arguments of each call, and the outcome of each answer.
 
 use crate::calls::{Maker, PROGRAM, ScriptedAnswer, Step, WHY, name_with};
-use crate::objects::is_over;
-use bstr::BString;
+use crate::objects::{Outcome, after_calls};
+use gixobj_fields::encode;
+use gixobj_hash::decode;
 use gixobj_signature::signature::sign::{Error, Options, is_literal_ssh_key, sign_payload};
 use gixobj_text::signature::Format::{self, OpenPgp, Ssh, X509};
 use std::alloc::Global;
-
-/// The outcome of signing.
-#[derive(Clone, Copy)]
-enum Outcome {
-    /// This signature.
-    Signature(&'static [u8]),
-    /// The error of this name.
-    Error(&'static str),
-}
 
 /// The confirmation of a signature.
 pub(crate) const CREATED: &[u8] = b"[GNUPG:] SIG_CREATED x\n";
 
 /// Answers of a program of OpenPGP or of X.509, and the outcomes of signing.
-const GPG: &[(ScriptedAnswer, Outcome)] = &[
+const GPG: &[(ScriptedAnswer, Outcome<'static>)] = &[
     (
         ScriptedAnswer::Ran(true, b"A\r\nB\r\n", CREATED, None),
-        Outcome::Signature(b"A\nB\n"),
+        Outcome::Bytes(b"A\nB\n"),
     ),
     (
         ScriptedAnswer::Ran(true, b"A\rB\r\r\n\r", CREATED, None),
-        Outcome::Signature(b"A\rB\r\n\r"),
+        Outcome::Bytes(b"A\rB\r\n\r"),
     ),
     (
         ScriptedAnswer::Ran(true, b"", b"x\r\n[GNUPG:] SIG_CREATED ", None),
-        Outcome::Signature(b""),
+        Outcome::Bytes(b""),
     ),
     (
         ScriptedAnswer::Ran(true, b"A\n", b"", None),
@@ -61,10 +53,10 @@ const GPG: &[(ScriptedAnswer, Outcome)] = &[
 ];
 
 /// Answers of a program of SSH, and the outcomes of signing.
-const SSH: &[(ScriptedAnswer, Outcome)] = &[
+const SSH: &[(ScriptedAnswer, Outcome<'static>)] = &[
     (
         ScriptedAnswer::Ran(true, b"", b"", Some(b"S\r\nT")),
-        Outcome::Signature(b"S\nT"),
+        Outcome::Bytes(b"S\nT"),
     ),
     (
         ScriptedAnswer::Ran(true, b"S", CREATED, None),
@@ -84,96 +76,74 @@ const SSH: &[(ScriptedAnswer, Outcome)] = &[
     (ScriptedAnswer::NoMemory, Outcome::Error("OutOfMemory")),
 ];
 
-/// An SSH key, the arguments and files of its call, and the index of the file next to the result file.
-type Key = (&'static [u8], &'static str, &'static [&'static [u8]], usize);
+/// A key, and the parts of its call.
+struct Key {
+    key: &'static [u8],
+    arguments: &'static str,
+    files: &'static [&'static [u8]],
+    input: Option<&'static [u8]>,
+    /// The index of the file next to the result file.
+    result: Option<usize>,
+}
 
-const KEYS: &[Key] = &[
-    (b"K", "-x -Y sign -n git -f K @0", &[b"payload"], 0),
-    (
-        b"keys/ssh-signing",
-        "-x -Y sign -n git -f keys/ssh-signing @0",
-        &[b"payload"],
-        0,
-    ),
-    (
-        b"key::k",
-        "-x -Y sign -n git -f @0 -U @1",
-        &[b"k", b"payload"],
-        1,
-    ),
-    (
-        b"key::",
-        "-x -Y sign -n git -f @0 -U @1",
-        &[b"", b"payload"],
-        1,
-    ),
-    (
-        b"ssh-k",
-        "-x -Y sign -n git -f @0 -U @1",
-        &[b"ssh-k", b"payload"],
-        1,
-    ),
+/// A key of OpenPGP or of X.509.
+const GPG_KEY: &Key = &Key {
+    key: b"K",
+    arguments: "-x --status-fd=2 -bsau K",
+    files: &[],
+    input: Some(b"payload"),
+    result: None,
+};
+
+/// Keys of SSH.
+const SSH_KEYS: &[Key] = &[
+    Key {
+        key: b"K",
+        arguments: "-x -Y sign -n git -f K @0",
+        files: &[b"payload"],
+        input: None,
+        result: Some(0),
+    },
+    Key {
+        key: b"keys/ssh-signing",
+        arguments: "-x -Y sign -n git -f keys/ssh-signing @0",
+        files: &[b"payload"],
+        input: None,
+        result: Some(0),
+    },
+    Key {
+        key: b"key::k",
+        arguments: "-x -Y sign -n git -f @0 -U @1",
+        files: &[b"k", b"payload"],
+        input: None,
+        result: Some(1),
+    },
+    Key {
+        key: b"key::",
+        arguments: "-x -Y sign -n git -f @0 -U @1",
+        files: &[b"", b"payload"],
+        input: None,
+        result: Some(1),
+    },
+    Key {
+        key: b"ssh-k",
+        arguments: "-x -Y sign -n git -f @0 -U @1",
+        files: &[b"ssh-k", b"payload"],
+        input: None,
+        result: Some(1),
+    },
 ];
 
-/// Returns the options of signing.
-fn options_of(maker: &mut Maker, format: Format, key: &[u8]) -> Options {
-    Options {
-        format,
-        program: maker.bstring(PROGRAM),
-        program_arguments: maker.bstrings(&[b"-x"]),
-        signing_key: maker.bstring(key),
-        environment: maker.environment(false),
-    }
-}
-
-/// Returns the call of a program of OpenPGP or of X.509, with this answer.
-fn gpg_step(answer: ScriptedAnswer) -> Step<'static> {
+/// Returns the call of a key, with this answer.
+fn step_of(key: &Key, answer: ScriptedAnswer) -> Step<'static> {
     Step {
         program: PROGRAM,
-        arguments: "-x --status-fd=2 -bsau K",
+        arguments: key.arguments,
         in_english: false,
-        files: &[],
-        input: Some(b"payload"),
-        result: None,
+        files: key.files,
+        input: key.input,
+        result: key.result,
         answer,
-    }
-}
-
-/// Returns the call of a program of SSH for a key, with this answer.
-fn ssh_step(key: &Key, answer: ScriptedAnswer) -> Step<'static> {
-    let (_, arguments, files, result_index) = *key;
-    Step {
-        program: PROGRAM,
-        arguments,
-        in_english: false,
-        files,
-        input: None,
-        result: Some(result_index),
-        answer,
-    }
-}
-
-/// Returns whether signing has this outcome.
-fn is_so(actual: &Result<BString, Error>, outcome: Outcome) -> bool {
-    match actual {
-        Ok(signature) => is_signature(signature, outcome),
-        Err(error) => is_error_of(error, outcome),
-    }
-}
-
-/// Returns whether the outcome is this signature.
-fn is_signature(signature: &BString, outcome: Outcome) -> bool {
-    match outcome {
-        Outcome::Signature(expected) => signature.as_bytes() == expected,
-        Outcome::Error(_) => false,
-    }
-}
-
-/// Returns whether the outcome is this error.
-fn is_error_of(error: &Error, outcome: Outcome) -> bool {
-    match outcome {
-        Outcome::Error(expected) => name_of(error) == expected,
-        Outcome::Signature(_) => false,
     }
 }
 
@@ -183,18 +153,33 @@ fn has_outcome(
     format: Format,
     key: &[u8],
     steps: &[Step<'_>],
-    outcome: Outcome,
+    outcome: Outcome<'_>,
 ) -> bool {
     let mut maker = Maker::new(alloc);
     let mut runner = maker.runner(steps);
-    let options = options_of(&mut maker, format, key);
-    let actual = sign_payload(alloc, b"payload", options, &mut runner);
-    is_so(&actual, outcome) && is_over(&maker, &runner)
+    let options = Options {
+        format,
+        program: maker.bstring(PROGRAM),
+        program_arguments: maker.bstrings(&[b"-x"]),
+        signing_key: maker.bstring(key),
+        environment: maker.environment(false),
+    };
+    let is_so = match &sign_payload(alloc, b"payload", options, &mut runner) {
+        Ok(signature) =>
+            matches!(outcome, Outcome::Bytes(wanted) if signature.as_bytes() == wanted),
+        Err(error) => matches!(outcome, Outcome::Error(name) if name_of(error) == name),
+    };
+    after_calls(Some(is_so), &maker, &runner) == Some(true)
 }
 
-/// Returns the name of an error, if its payload is as expected.
+/// Returns the name of an error, if its payload is as expected, or of its cause if the error comes before any
+/// call.
 pub(crate) fn name_of(error: &Error) -> &'static str {
     match error {
+        Error::Decode(decode::Error::Malformed) => "Malformed",
+        Error::Encode(encode::Error::IllegalActor) => "IllegalActor",
+        Error::Encode(encode::Error::EmptyValue) => "EmptyValue",
+        Error::Encode(encode::Error::StartsWithDash) => "StartsWithDash",
         Error::MissingSigningKey => "MissingSigningKey",
         Error::TemporaryFile(why) => name_with("TemporaryFile", why, WHY),
         Error::Spawn(why) => name_with("Spawn", why, WHY),
@@ -207,41 +192,34 @@ pub(crate) fn name_of(error: &Error) -> &'static str {
     }
 }
 
-/// Returns whether signing by a program of this format has the outcome of a row.
-fn has_row_outcome(alloc: Global, format: Format, row: &(ScriptedAnswer, Outcome)) -> bool {
-    let (answer, outcome) = *row;
-    has_outcome(alloc, format, b"K", &[gpg_step(answer)], outcome)
+/// Returns the number of the first of these rows whose outcome signing with this key doesn't have.
+fn failing_row(
+    alloc: Global,
+    format: Format,
+    key: &Key,
+    rows: &[(ScriptedAnswer, Outcome<'static>)],
+) -> Option<usize> {
+    for (number, &(answer, outcome)) in rows.iter().enumerate() {
+        if !has_outcome(alloc, format, key.key, &[step_of(key, answer)], outcome) {
+            return Some(number);
+        }
+    }
+    None
 }
 
 #[test]
 fn signs_by_open_pgp_and_x509(rt: HostRuntime) {
-    for (number, row) in GPG.iter().enumerate() {
-        let is_so = has_row_outcome(rt.alloc(), OpenPgp, row)
-            && has_row_outcome(rt.alloc(), X509, row);
-        assert!(rt; is_so, "{number}");
+    for format in [OpenPgp, X509] {
+        let failing = failing_row(rt.alloc(), format, GPG_KEY, GPG);
+        assert!(rt; failing.is_none(), "{format:?} {failing:?}");
     }
-}
-
-/// Returns whether signing with an SSH key has the outcome of a row.
-fn signs_row_by_ssh(alloc: Global, key: &Key, row: &(ScriptedAnswer, Outcome)) -> bool {
-    let (answer, outcome) = *row;
-    has_outcome(alloc, Ssh, key.0, &[ssh_step(key, answer)], outcome)
-}
-
-/// Returns whether signing with an SSH key has the outcome of each row.
-fn signs_by_ssh(alloc: Global, key: &Key) -> bool {
-    for row in SSH {
-        if !signs_row_by_ssh(alloc, key, row) {
-            return false;
-        }
-    }
-    true
 }
 
 #[test]
 fn signs_by_ssh_with_each_key(rt: HostRuntime) {
-    for key in KEYS {
-        assert!(rt; signs_by_ssh(rt.alloc(), key), "{}", key.1);
+    for key in SSH_KEYS {
+        let failing = failing_row(rt.alloc(), Ssh, key, SSH);
+        assert!(rt; failing.is_none(), "{} {failing:?}", key.arguments);
     }
 }
 
@@ -256,15 +234,10 @@ fn without_a_key_no_call_is_made(rt: HostRuntime) {
     }
 }
 
-/// Returns whether a key is literal with these bytes, or not literal if `bytes` is `None`.
-fn is_literal(key: &[u8], bytes: Option<&[u8]>) -> bool {
-    is_literal_ssh_key(key) == bytes
-}
-
 #[test]
 fn recognizes_literal_ssh_keys(rt: HostRuntime) {
-    assert!(rt; is_literal(b"key::k", Some(b"k")));
-    assert!(rt; is_literal(b"ssh-k", Some(b"ssh-k")));
-    assert!(rt; is_literal(b"Key::k", None));
-    assert!(rt; is_literal(b"", None));
+    assert!(rt; is_literal_ssh_key(b"key::k") == Some(b"k".as_slice()));
+    assert!(rt; is_literal_ssh_key(b"ssh-k") == Some(b"ssh-k".as_slice()));
+    assert!(rt; is_literal_ssh_key(b"Key::k").is_none());
+    assert!(rt; is_literal_ssh_key(b"").is_none());
 }

@@ -1,8 +1,7 @@
 //! Verifying: the arguments of each call, and the outcome of each answer.
 
 use crate::calls::{Maker, PROGRAM, ScriptedAnswer, Step, WHY, name_with, time};
-use crate::objects::is_over;
-use crate::scripted::Played;
+use crate::objects::after_calls;
 use bstr::{BStr, BString};
 use gixobj_signature::signature::SignedData;
 use gixobj_signature::signature::verify::TrustLevel::{self, Fully, Marginal, Ultimate};
@@ -18,6 +17,9 @@ const X509: &[u8] = b"-----BEGIN SIGNED MESSAGE-----\n";
 
 /// An SSH signature.
 const SSH: &[u8] = b"-----BEGIN SSH SIGNATURE-----\n";
+
+/// The data that each signature signs.
+const DATA: &[u8] = b"signed data";
 
 /// The output of programs of OpenPGP and of X.509 for a good signature, fully trusted.
 const GOOD: &[u8] = b"[GNUPG:] GOODSIG K A\n[GNUPG:] VALIDSIG F\n[GNUPG:] TRUST_FULLY\n";
@@ -36,37 +38,37 @@ const GPG: &[Gpg] = &[
     (
         ScriptedAnswer::Ran(true, GOOD, b"human", None),
         Fully,
-        "Good Fully A K F [human] valid",
+        "Good Fully A K F [human] true",
     ),
     (
         ScriptedAnswer::Ran(true, GOOD, b"", None),
         Ultimate,
-        "Good Fully A K F [] not valid",
+        "Good Fully A K F [] false",
     ),
     (
         ScriptedAnswer::Ran(false, GOOD, b"", None),
         Fully,
-        "Good Fully A K F [] not valid",
+        "Good Fully A K F [] false",
     ),
     (
         ScriptedAnswer::Ran(true, SOME, b"", None),
         Marginal,
-        "Good Marginal A K - [] valid",
+        "Good Marginal A K - [] true",
     ),
     (
         ScriptedAnswer::Ran(true, SOME, b"", None),
         Fully,
-        "Good Marginal A K - [] not valid",
+        "Good Marginal A K - [] false",
     ),
     (
         ScriptedAnswer::Ran(true, BAD, b"", None),
         Marginal,
-        "Bad Ultimate A K - [] not valid",
+        "Bad Ultimate A K - [] false",
     ),
     (
         ScriptedAnswer::Ran(true, b"", SOME, None),
         TrustLevel::Undefined,
-        "Unknown Undefined - - - [..] not valid",
+        "Unknown Undefined - - - [[GNUPG:] GOODSIG K A\n[GNUPG:] TRUST_MARGINAL\n] false",
     ),
     (ScriptedAnswer::NoFile, Fully, "TemporaryFile"),
     (ScriptedAnswer::NotStarted, Fully, "Spawn"),
@@ -77,19 +79,25 @@ const GPG: &[Gpg] = &[
 
 /// A row of a program of SSH.
 struct Row {
-    /// The answer to the call for the principals.
-    principals: ScriptedAnswer,
-    /// The arguments of the call for each principal, and its answer.
+    /// The minimum trust, and the file of revoked keys.
+    how: (TrustLevel, Option<&'static [u8]>),
+    /// The arguments of each call, and its answer.
     calls: &'static [(&'static str, ScriptedAnswer)],
-    /// The answer to the call without a principal, if that is made.
-    any: Option<ScriptedAnswer>,
     /// The expected outcome.
     expected: &'static str,
 }
 
+/// Full trust as the minimum, and a file of revoked keys.
+const REVOKED: (TrustLevel, Option<&[u8]>) = (Fully, Some(b"revoked"));
+
+/// Arguments of the call for the principals.
+const PRINCIPALS: &str = "-x -Y find-principals -f allowed -s @0 @time";
+/// Arguments of the call without a principal.
+const ANY: &str = "-x -Y check-novalidate -n git -s @0 @time";
 /// Arguments of the call for the principal `A`.
 const A: &str = "-x -Y verify -n git -f allowed -I A -s @0 @time -r revoked";
-
+/// Arguments of the call for the principal `A`, without a file of revoked keys.
+const A_WITHOUT_FILE: &str = "-x -Y verify -n git -f allowed -I A -s @0 @time";
 /// Arguments of the call for the principal `B`.
 const B: &str = "-x -Y verify -n git -f allowed -I B -s @0 @time -r revoked";
 /// Arguments of the call for the principal `fixture`.
@@ -99,91 +107,124 @@ const GOOD_FIXTURE: &[u8] = b"Good \"git\" signature for fixture with ED25519 ke
 /// Arguments of the call for a principal of bytes that are not UTF-8.
 const NO_UTF8: &str = "-x -Y verify -n git -f allowed -I \u{fffd} -s @0 @time -r revoked";
 
-/// Rows with a file of revoked keys, and full trust as the minimum.
+/// Rows of programs of SSH.
 const ROWS: &[Row] = &[
     Row {
-        principals: ScriptedAnswer::Ran(true, b"A\n", b"", None),
-        calls: &[(A, ScriptedAnswer::Ran(true, GOOD_SSH, b"", None))],
-        any: None,
-        expected: "Good Fully A F F [..] valid",
-    },
-    Row {
-        principals: ScriptedAnswer::Ran(true, b"A\n", b"", None),
-        calls: &[(A, ScriptedAnswer::Ran(false, GOOD_SSH, b"", None))],
-        any: None,
-        expected: "Good Fully - F F [..] not valid",
-    },
-    Row {
-        principals: ScriptedAnswer::Ran(true, b"fixture\n", b"", None),
-        calls: &[(FIXTURE, ScriptedAnswer::Ran(false, GOOD_FIXTURE, b"", None))],
-        any: None,
-        expected: "Good Fully - SHA256:fixture SHA256:fixture [..] not valid",
-    },
-    Row {
-        principals: ScriptedAnswer::Ran(false, b"A\n", b"", None),
-        calls: &[],
-        any: Some(ScriptedAnswer::Ran(true, GOOD_SSH, b"", None)),
-        expected: "Good Undefined - F F [..] not valid",
-    },
-    Row {
-        principals: ScriptedAnswer::Ran(true, b"\n \t\n\r\n", b"", None),
-        calls: &[],
-        any: Some(ScriptedAnswer::Ran(true, b"", b"no", None)),
-        expected: "Bad Undefined - - - [no] not valid",
-    },
-    Row {
-        principals: ScriptedAnswer::Ran(true, b"A\n\n B \t\r\nC", b"", None),
+        how: REVOKED,
         calls: &[
+            (PRINCIPALS, ScriptedAnswer::Ran(true, b"A\n", b"", None)),
+            (A, ScriptedAnswer::Ran(true, GOOD_SSH, b"", None)),
+        ],
+        expected: "Good Fully A F F [Good \"git\" signature for A with X key F\n] true",
+    },
+    Row {
+        how: REVOKED,
+        calls: &[
+            (PRINCIPALS, ScriptedAnswer::Ran(true, b"A\n", b"", None)),
+            (A, ScriptedAnswer::Ran(false, GOOD_SSH, b"", None)),
+        ],
+        expected: "Good Fully - F F [Good \"git\" signature for A with X key F\n] false",
+    },
+    Row {
+        how: REVOKED,
+        calls: &[
+            (
+                PRINCIPALS,
+                ScriptedAnswer::Ran(true, b"fixture\n", b"", None),
+            ),
+            (FIXTURE, ScriptedAnswer::Ran(false, GOOD_FIXTURE, b"", None)),
+        ],
+        expected: "Good Fully - SHA256:fixture SHA256:fixture [Good \"git\" signature for fixture with ED25519 key SHA256:fixture\n] false",
+    },
+    Row {
+        how: REVOKED,
+        calls: &[
+            (PRINCIPALS, ScriptedAnswer::Ran(false, b"A\n", b"", None)),
+            (ANY, ScriptedAnswer::Ran(true, GOOD_SSH, b"", None)),
+        ],
+        expected: "Good Undefined - F F [Good \"git\" signature for A with X key F\n] false",
+    },
+    Row {
+        how: REVOKED,
+        calls: &[
+            (
+                PRINCIPALS,
+                ScriptedAnswer::Ran(true, b"\n \t\n\r\n", b"", None),
+            ),
+            (ANY, ScriptedAnswer::Ran(true, b"", b"no", None)),
+        ],
+        expected: "Bad Undefined - - - [no] false",
+    },
+    Row {
+        how: REVOKED,
+        calls: &[
+            (
+                PRINCIPALS,
+                ScriptedAnswer::Ran(true, b"A\n\n B \t\r\nC", b"", None),
+            ),
             (A, ScriptedAnswer::Ran(true, b"Bad", b"", None)),
             (B, ScriptedAnswer::Ran(true, GOOD_SSH, b"", None)),
         ],
-        any: None,
-        expected: "Good Fully B F F [..] valid",
+        expected: "Good Fully B F F [Good \"git\" signature for A with X key F\n] true",
     },
     Row {
-        principals: ScriptedAnswer::Ran(true, b"A\nB", b"", None),
+        how: REVOKED,
         calls: &[
+            (PRINCIPALS, ScriptedAnswer::Ran(true, b"A\nB", b"", None)),
             (A, ScriptedAnswer::Ran(false, GOOD_SSH, b"", None)),
             (B, ScriptedAnswer::Ran(false, b"out", b"err", None)),
         ],
-        any: None,
-        expected: "Bad Fully - - - [outerr] not valid",
+        expected: "Bad Fully - - - [outerr] false",
     },
     Row {
-        principals: ScriptedAnswer::Ran(true, b"\xff\n", b"", None),
-        calls: &[(NO_UTF8, ScriptedAnswer::Ran(true, b"Good", b"", None))],
-        any: None,
-        expected: "Bad Fully \u{fffd} - - [Good] not valid",
+        how: REVOKED,
+        calls: &[
+            (PRINCIPALS, ScriptedAnswer::Ran(true, b"\xff\n", b"", None)),
+            (NO_UTF8, ScriptedAnswer::Ran(true, b"Good", b"", None)),
+        ],
+        expected: "Bad Fully \u{fffd} - - [Good] false",
     },
     Row {
-        principals: ScriptedAnswer::NoTime,
-        calls: &[],
-        any: None,
+        how: REVOKED,
+        calls: &[(PRINCIPALS, ScriptedAnswer::NoTime)],
         expected: "CommitTime",
     },
     Row {
-        principals: ScriptedAnswer::NoFile,
-        calls: &[],
-        any: None,
+        how: REVOKED,
+        calls: &[(PRINCIPALS, ScriptedAnswer::NoFile)],
         expected: "TemporaryFile",
     },
     Row {
-        principals: ScriptedAnswer::Ran(true, b"A\nB", b"", None),
-        calls: &[(A, ScriptedAnswer::NoCommunication)],
-        any: None,
+        how: REVOKED,
+        calls: &[
+            (PRINCIPALS, ScriptedAnswer::Ran(true, b"A\nB", b"", None)),
+            (A, ScriptedAnswer::NoCommunication),
+        ],
         expected: "Communicate",
     },
     Row {
-        principals: ScriptedAnswer::Ran(true, b"", b"", None),
-        calls: &[],
-        any: Some(ScriptedAnswer::NotStarted),
+        how: REVOKED,
+        calls: &[
+            (PRINCIPALS, ScriptedAnswer::Ran(true, b"", b"", None)),
+            (ANY, ScriptedAnswer::NotStarted),
+        ],
         expected: "Spawn",
     },
     Row {
-        principals: ScriptedAnswer::NoMemory,
-        calls: &[],
-        any: None,
+        how: REVOKED,
+        calls: &[(PRINCIPALS, ScriptedAnswer::NoMemory)],
         expected: "OutOfMemory",
+    },
+    Row {
+        how: (Ultimate, None),
+        calls: &[
+            (PRINCIPALS, ScriptedAnswer::Ran(true, b"A\n", b"", None)),
+            (
+                A_WITHOUT_FILE,
+                ScriptedAnswer::Ran(true, GOOD_SSH, b"", None),
+            ),
+        ],
+        expected: "Good Fully A F F [Good \"git\" signature for A with X key F\n] false",
     },
 ];
 
@@ -221,93 +262,23 @@ pub(crate) fn options_of(maker: &mut Maker, how: How) -> Options {
     }
 }
 
-/// Returns the call of a program of OpenPGP, with this answer.
-fn pgp_step(answer: ScriptedAnswer) -> Step<'static> {
-    Step {
-        program: PROGRAM,
-        arguments: "-x --keyid-format=long --status-fd=1 --verify @0 -",
-        in_english: false,
-        files: &[PGP],
-        input: Some(b"signed data"),
-        result: None,
-        answer,
-    }
-}
-
-/// Returns the call of a program of X.509, with this answer.
-fn x509_step(answer: ScriptedAnswer) -> Step<'static> {
-    Step {
-        program: PROGRAM,
-        arguments: "-x --status-fd=1 --verify @0 @1",
-        in_english: false,
-        files: &[X509, b"signed data"],
-        input: None,
-        result: None,
-        answer,
-    }
-}
-
-/// Returns a call of a program of SSH, with this answer.
-fn ssh_step(
-    arguments: &'static str,
-    input: &'static [u8],
-    answer: ScriptedAnswer,
-) -> Step<'static> {
+/// Returns the call of a program of this format, with these arguments and this answer.
+fn step_of(format: Format, arguments: &'static str, answer: ScriptedAnswer) -> Step<'static> {
+    let (files, input): (&'static [&'static [u8]], Option<&'static [u8]>) = match format {
+        Format::OpenPgp => (&[PGP], Some(DATA)),
+        Format::X509 => (&[X509, DATA], None),
+        Format::Ssh if arguments == PRINCIPALS => (&[SSH], Some(b"")),
+        Format::Ssh => (&[SSH], Some(DATA)),
+    };
     Step {
         program: PROGRAM,
         arguments,
-        in_english: true,
-        files: &[SSH],
-        input: Some(input),
+        in_english: format == Format::Ssh,
+        files,
+        input,
         result: None,
         answer,
     }
-}
-
-/// Appends the calls for these principals to those that a runner expects.
-fn expect_called(maker: &mut Maker, runner: &mut Played, calls: &[(&'static str, ScriptedAnswer)]) {
-    for &(arguments, answer) in calls {
-        maker.expect(runner, &ssh_step(arguments, b"signed data", answer));
-    }
-}
-
-/// Appends the call without a principal to those that a runner expects, if it is made.
-fn expect_any(maker: &mut Maker, runner: &mut Played, any: Option<ScriptedAnswer>) {
-    if let Some(answer) = any {
-        let arguments = "-x -Y check-novalidate -n git -s @0 @time";
-        maker.expect(runner, &ssh_step(arguments, b"signed data", answer));
-    }
-}
-
-/// Returns the runner that expects the calls of a row.
-fn runner_of_row(maker: &mut Maker, row: &Row) -> Played {
-    let arguments = "-x -Y find-principals -f allowed -s @0 @time";
-    let mut runner = maker.runner(&[ssh_step(arguments, b"", row.principals)]);
-    expect_called(maker, &mut runner, row.calls);
-    expect_any(maker, &mut runner, row.any);
-    runner
-}
-
-/// Returns whether verifying has this outcome.
-fn is_so(alloc: Global, actual: &Result<Outcome, Error>, expected: &str) -> bool {
-    match actual {
-        Ok(outcome) => is_outcome(alloc, outcome, expected),
-        Err(error) => name_of(error) == expected,
-    }
-}
-
-/// Returns whether verifying this signature has this outcome, by all calls of a scripted runner.
-fn verifies(
-    maker: &mut Maker,
-    signature: &[u8],
-    how: How,
-    runner: &mut Played,
-    expected: &str,
-) -> bool {
-    let options = options_of(maker, how);
-    let signed = SignedData::new(b"signed", b" data");
-    let actual = signed.verify(maker.alloc, BStr::new(signature), options, runner);
-    is_so(maker.alloc, &actual, expected) && is_over(maker, runner)
 }
 
 /// Returns whether verifying this signature has this outcome, by these calls only.
@@ -315,60 +286,60 @@ fn has_outcome(
     alloc: Global,
     signature: &[u8],
     how: How,
-    steps: &[Step<'_>],
+    calls: &[(&'static str, ScriptedAnswer)],
     expected: &str,
 ) -> bool {
     let mut maker = Maker::new(alloc);
-    let mut runner = maker.runner(steps);
-    verifies(&mut maker, signature, how, &mut runner, expected)
-}
-
-/// Returns whether an outcome is formatted as expected.
-fn is_outcome(alloc: Global, outcome: &Outcome, expected: &str) -> bool {
-    match format_outcome(alloc, outcome) {
+    let mut runner = maker.runner(&[]);
+    for &(arguments, answer) in calls {
+        maker.expect(&mut runner, &step_of(how.0, arguments, answer));
+    }
+    let options = options_of(&mut maker, how);
+    let signed = SignedData::new(b"signed", b" data");
+    let actual = signed.verify(alloc, BStr::new(signature), options, &mut runner);
+    let is_so = match &format_result(alloc, &actual) {
         Ok(formatted) => formatted.as_str() == expected,
         Err(_) => false,
+    };
+    after_calls(Some(is_so), &maker, &runner) == Some(true)
+}
+
+/// Formats an outcome, or an error: its name, or the formats of the program and of the signature.
+fn format_result(alloc: Global, actual: &Result<Outcome, Error>) -> Result<String, AllocError> {
+    match actual {
+        Ok(outcome) => format_outcome(alloc, outcome),
+        Err(
+            Error::FormatMismatch {
+                program_format,
+                signature_format,
+            },
+        ) => format!(in alloc; "{program_format:?} {signature_format:?}"),
+        Err(error) => {
+            let name = name_of(error);
+            format!(in alloc; "{name}")
+        }
     }
 }
 
-/// Formats an outcome: its fields, the output for users in brackets, and its validity.
+/// Formats an outcome: its fields, the output for users in brackets, and whether it is valid.
 fn format_outcome(alloc: Global, outcome: &Outcome) -> Result<String, AllocError> {
-    let Outcome {
-        status,
-        trust_level,
-        ..
-    } = outcome;
-    let signer = shown(&outcome.signer);
-    let key = shown(&outcome.key);
-    let fingerprint = shown(&outcome.fingerprint);
-    let output = shown_output(outcome.output.as_bytes());
-    let valid = validity_name(outcome);
-    format!(in alloc; "{status:?} {trust_level:?} {signer} {key} {fingerprint} [{output}] {valid}")
-}
-
-/// Returns whether an outcome is valid, as a phrase.
-fn validity_name(outcome: &Outcome) -> &'static str {
-    if outcome.is_valid() {
-        "valid"
-    } else {
-        "not valid"
-    }
+    let (status, trust_level) = (outcome.status, outcome.trust_level);
+    let signer = shown(outcome.signer.as_ref());
+    let key = shown(outcome.key.as_ref());
+    let fingerprint = shown(outcome.fingerprint.as_ref());
+    let output = shown(Some(&outcome.output));
+    let is_valid = outcome.is_valid();
+    format!(in alloc;
+        "{status:?} {trust_level:?} {signer} {key} {fingerprint} [{output}] {is_valid}"
+    )
 }
 
 /// Returns a byte string as UTF-8, or `-` if there is none.
-fn shown(bytes: &Option<BString>) -> &str {
+fn shown(bytes: Option<&BString>) -> &str {
     match bytes {
         Some(bytes) => str::from_utf8(bytes.as_bytes()).unwrap_or("?"),
         None => "-",
     }
-}
-
-/// Returns the output for users, or `..` if it is longer than eight bytes.
-fn shown_output(output: &[u8]) -> &str {
-    if output.len() > 8 {
-        return "..";
-    }
-    str::from_utf8(output).unwrap_or("?")
 }
 
 /// Returns the name of an error, if its payload is as expected.
@@ -384,114 +355,65 @@ fn name_of(error: &Error) -> &'static str {
     }
 }
 
-/// Returns whether verifying an OpenPGP signature has the outcome of a row.
-fn has_pgp_outcome(alloc: Global, row: &Gpg) -> bool {
-    let (answer, minimum, expected) = *row;
-    let how = (Format::OpenPgp, minimum, None);
-    has_outcome(alloc, PGP, how, &[pgp_step(answer)], expected)
-}
-
-/// Returns whether verifying an X.509 signature has the outcome of a row.
-fn has_x509_outcome(alloc: Global, row: &Gpg) -> bool {
-    let (answer, minimum, expected) = *row;
-    let how = (Format::X509, minimum, None);
-    has_outcome(alloc, X509, how, &[x509_step(answer)], expected)
-}
-
-#[test]
-fn verifies_by_open_pgp_and_x509(rt: HostRuntime) {
-    for (number, row) in GPG.iter().enumerate() {
-        let is_so = has_pgp_outcome(rt.alloc(), row) && has_x509_outcome(rt.alloc(), row);
-        assert!(rt; is_so, "{number}");
-    }
-}
-
-/// Returns whether verifying by a program of SSH has the outcome of a row.
-fn has_row_outcome(alloc: Global, row: &Row) -> bool {
-    let mut maker = Maker::new(alloc);
-    let mut runner = runner_of_row(&mut maker, row);
-    let how = (Format::Ssh, Fully, Some(b"revoked".as_slice()));
-    verifies(&mut maker, SSH, how, &mut runner, row.expected)
-}
-
-#[test]
-fn verifies_by_ssh(rt: HostRuntime) {
-    for (number, row) in ROWS.iter().enumerate() {
-        assert!(rt; has_row_outcome(rt.alloc(), row), "{number}");
-    }
-}
-
-#[test]
-fn verifies_without_file_of_revoked_keys(rt: HostRuntime) {
-    let steps = [
-        ssh_step(
-            "-x -Y find-principals -f allowed -s @0 @time",
-            b"",
-            ScriptedAnswer::Ran(true, b"A\n", b"", None),
-        ),
-        ssh_step(
-            "-x -Y verify -n git -f allowed -I A -s @0 @time",
-            b"signed data",
-            ScriptedAnswer::Ran(true, GOOD_SSH, b"", None),
-        ),
-    ];
-    let how = (Format::Ssh, Ultimate, None);
-    let expected = "Good Fully A F F [..] not valid";
-    assert!(rt; has_outcome(rt.alloc(), SSH, how, &steps, expected));
-}
-
-/// Returns whether verifying failed with `FormatMismatch` and both formats.
-fn is_mismatch(actual: &Result<Outcome, Error>, program: Format, signature: Format) -> bool {
-    match actual {
-        Err(
-            Error::FormatMismatch {
-                program_format,
-                signature_format,
-            },
-        ) => *program_format == program && *signature_format == signature,
-        _ => false,
-    }
-}
-
-/// Returns whether verifying a signature of another format fails with both formats, by no call.
-fn mismatches(alloc: Global, program: Format, signature: &[u8], format: Format) -> bool {
-    let mut maker = Maker::new(alloc);
-    let mut runner = maker.runner(&[]);
-    let options = options_of(&mut maker, (program, Fully, None));
-    let signed = SignedData::new(b"", b"");
-    let actual = signed.verify(alloc, BStr::new(signature), options, &mut runner);
-    is_mismatch(&actual, program, format) && is_over(&maker, &runner)
-}
-
-/// Signatures, and their formats.
-const FORMATS: &[(&[u8], Format)] = &[
-    (PGP, Format::OpenPgp),
-    (X509, Format::X509),
-    (SSH, Format::Ssh),
+/// Signatures of OpenPGP and of X.509, and the arguments of the call of each.
+const CALLS: &[(Format, &[u8], &str)] = &[
+    (
+        Format::OpenPgp,
+        PGP,
+        "-x --keyid-format=long --status-fd=1 --verify @0 -",
+    ),
+    (Format::X509, X509, "-x --status-fd=1 --verify @0 @1"),
 ];
 
-/// Returns whether a program of this format verifies no signature of another format, by no call.
-fn rejects_other_formats(alloc: Global, program: Format) -> bool {
-    for &(signature, format) in FORMATS {
-        if program != format && !mismatches(alloc, program, signature, format) {
+/// Returns whether verifying a signature of OpenPGP and of X.509 has the outcome of a row.
+fn has_row_outcome(alloc: Global, row: &Gpg) -> bool {
+    let (answer, minimum, expected) = *row;
+    for &(format, signature, arguments) in CALLS {
+        let calls = &[(arguments, answer)];
+        if !has_outcome(alloc, signature, (format, minimum, None), calls, expected) {
             return false;
         }
     }
     true
 }
 
-/// Returns whether a program of this format rejects bytes that are no signature, by no call.
-fn rejects_non_signatures(alloc: Global, program: Format) -> bool {
-    let how = (program, Fully, None);
-    has_outcome(alloc, b"not a signature", how, &[], "UnsupportedFormat")
+#[test]
+fn verifies_by_open_pgp_and_x509(rt: HostRuntime) {
+    for (number, row) in GPG.iter().enumerate() {
+        assert!(rt; has_row_outcome(rt.alloc(), row), "{number}");
+    }
 }
+
+/// With a file of revoked keys, and without.
+#[test]
+fn verifies_by_ssh(rt: HostRuntime) {
+    for (number, row) in ROWS.iter().enumerate() {
+        let how = (Format::Ssh, row.how.0, row.how.1);
+        let is_so = has_outcome(rt.alloc(), SSH, how, row.calls, row.expected);
+        assert!(rt; is_so, "{number}");
+    }
+}
+
+/// A program's format, bytes that it doesn't verify, and the error: the formats, or the name for bytes that
+/// are no signature.
+const MISMATCHES: &[(Format, &[u8], &str)] = &[
+    (Format::OpenPgp, X509, "OpenPgp X509"),
+    (Format::OpenPgp, SSH, "OpenPgp Ssh"),
+    (Format::OpenPgp, b"not a signature", "UnsupportedFormat"),
+    (Format::X509, PGP, "X509 OpenPgp"),
+    (Format::X509, SSH, "X509 Ssh"),
+    (Format::X509, b"not a signature", "UnsupportedFormat"),
+    (Format::Ssh, PGP, "Ssh OpenPgp"),
+    (Format::Ssh, X509, "Ssh X509"),
+    (Format::Ssh, b"not a signature", "UnsupportedFormat"),
+];
 
 /// No call is made for a signature of another format, or for bytes that are no signature.
 #[test]
 fn format_mismatch(rt: HostRuntime) {
-    for program in [Format::OpenPgp, Format::X509, Format::Ssh] {
-        let is_so = rejects_non_signatures(rt.alloc(), program)
-            && rejects_other_formats(rt.alloc(), program);
-        assert!(rt; is_so, "{program:?}");
+    for &(program, signature, expected) in MISMATCHES {
+        let how = (program, Fully, None);
+        let is_so = has_outcome(rt.alloc(), signature, how, &[], expected);
+        assert!(rt; is_so, "{program:?} {expected}");
     }
 }
