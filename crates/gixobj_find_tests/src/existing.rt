@@ -11,7 +11,7 @@ use gixobj_keep::Memory;
 use std::alloc::Global;
 
 /// A lookup that requires an object.
-#[derive(Clone, Copy, Debug, PartialEq, Eq)]
+#[derive(Clone, Copy, Debug)]
 pub(crate) enum Lookup {
     Tree,
     Blob,
@@ -38,7 +38,7 @@ const LOOKUPS: &[(Lookup, Option<Kind>, bool)] = &[
 ];
 
 /// The result of a lookup, reduced to its case, with the id and the kinds of its error.
-#[derive(Clone, Copy, Debug, PartialEq, Eq)]
+#[derive(Clone, Copy, PartialEq, Eq)]
 pub(crate) enum Answer {
     Found,
     Failed,

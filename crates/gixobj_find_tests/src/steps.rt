@@ -16,7 +16,7 @@ const TREE: &[u8] =
 const DAMAGED: &[u8] = b"!100644 a\0aaaaaaaaaaaaaaaaaaaa";
 
 /// The result of a step: the id with which it breaks or continues, and the number of remaining names.
-#[derive(Clone, Copy, Debug, PartialEq, Eq)]
+#[derive(Clone, Copy, PartialEq, Eq)]
 enum Step {
     Break(Option<ObjectId>, usize),
     Continue(ObjectId, usize),

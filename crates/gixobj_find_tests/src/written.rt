@@ -15,7 +15,7 @@ use std::alloc::Global;
 use std::rc::Rc;
 
 /// What is passed to a call of [`Write`].
-#[derive(Clone, Copy, Debug)]
+#[derive(Clone, Copy)]
 pub(crate) enum Form {
     Object,
     Bytes,

@@ -168,7 +168,7 @@ const ROWS: &[Row<'static>] = &[
 ];
 
 /// The form in which a commit is signed.
-#[derive(Clone, Copy, Debug, PartialEq, Eq)]
+#[derive(Clone, Copy)]
 pub(crate) enum Form {
     Owned,
     Decoded,
@@ -187,15 +187,16 @@ fn signed_commit(
     let Ok(mut commit) = CommitRef::from_bytes(alloc, row.encoding, row.hash) else {
         return Err(Error::OutOfMemory);
     };
-    if form == Form::WithoutAuthor {
-        commit.author = commit.tree;
-    }
-    if form != Form::Owned {
-        return commit.sign(alloc, options, runner);
-    }
-    match commit.into_owned(alloc) {
-        Ok(owned) => owned.sign(alloc, options, runner),
-        Err(_) => Err(Error::OutOfMemory),
+    match form {
+        Form::Owned => match commit.into_owned(alloc) {
+            Ok(owned) => owned.sign(alloc, options, runner),
+            Err(_) => Err(Error::OutOfMemory),
+        },
+        Form::Decoded => commit.sign(alloc, options, runner),
+        Form::WithoutAuthor => {
+            commit.author = commit.tree;
+            commit.sign(alloc, options, runner)
+        }
     }
 }
 

@@ -134,7 +134,8 @@ const ROWS: &[Row] = &[
             ),
             (FIXTURE, ScriptedAnswer::Ran(false, GOOD_FIXTURE, b"", None)),
         ],
-        expected: "Good Fully - SHA256:fixture SHA256:fixture [Good \"git\" signature for fixture with ED25519 key SHA256:fixture\n] false",
+        expected: "Good Fully - SHA256:fixture SHA256:fixture \
+            [Good \"git\" signature for fixture with ED25519 key SHA256:fixture\n] false",
     },
     Row {
         how: REVOKED,
