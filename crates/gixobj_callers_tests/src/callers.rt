@@ -13,9 +13,10 @@ mod signers;
 mod tags;
 mod uploads;
 
+use crate::samples::is_copy;
 use bstr::BStr;
 use gix_object::CommitRef;
-use gix_object::hash::{Kind, ObjectId};
+use gix_object::hash::Kind;
 use gix_object_tests::samples::id;
 use gixobj_object_callers::auditor::{position_of, value_of, values_of};
 use gixobj_object_callers::store::{CopyError, copy_of, owned_copy_of};
@@ -40,75 +41,41 @@ const MERGE: &[u8] = b"tree 4b825dc642cb6eb9a060e54bf8d69288fbee4904\n\
 /// Input that doesn't decode as a commit.
 const TRUNCATED: &[u8] = b"tree 4b";
 
-/// The tree of a commit. `None` for malformed input.
-fn tree_in(alloc: Global, bytes: &[u8]) -> Option<ObjectId> {
-    tree_of(alloc, bytes, Kind::Sha1).ok()
-}
-
-/// Whether the commit has both parents in order.
-fn has_both_parents(alloc: Global) -> bool {
-    match parents_of(alloc, MERGE, Kind::Sha1) {
-        Ok(parents) => parents.as_slice() == [id(FIRST), id(SECOND)].as_slice(),
-        Err(_) => false,
-    }
-}
-
-/// Whether the commit has its message.
-fn has_message(alloc: Global) -> bool {
-    message_of(alloc, MERGE, Kind::Sha1).ok() == Some(BStr::new(b"hi\n"))
-}
-
 #[test]
 fn finds_tree_parents_and_message(rt: HostRuntime) {
     let alloc = rt.alloc();
-    assert!(rt; tree_in(alloc, MERGE) == Some(id(TREE)));
-    assert!(rt; has_both_parents(alloc));
-    assert!(rt; has_message(alloc));
+    let parents = [id(FIRST), id(SECOND)];
+    let found = parents_of(alloc, MERGE, Kind::Sha1);
+    assert!(rt; tree_of(alloc, MERGE, Kind::Sha1).ok() == Some(id(TREE)));
+    assert!(rt; matches!(&found, Ok(found) if found.as_slice() == parents.as_slice()));
+    assert!(rt; message_of(alloc, MERGE, Kind::Sha1).ok() == Some(BStr::new(b"hi\n")));
     assert!(rt; ends_after_errors(alloc, TRUNCATED, Kind::Sha1));
-    assert!(rt; tree_in(alloc, TRUNCATED).is_none());
-}
-
-/// Whether a copy has these bytes.
-fn is_copy(copied: Result<Vec<u8>, CopyError>, bytes: &[u8]) -> bool {
-    match copied {
-        Ok(copy) => copy.as_slice() == bytes,
-        Err(_) => false,
-    }
-}
-
-/// Whether a copy of the malformed commit fails with `CopyError::Read`.
-fn is_not_read(alloc: Global) -> bool {
-    match copy_of(alloc, TRUNCATED, Kind::Sha1) {
-        Err(CopyError::Read(_)) => true,
-        _ => false,
-    }
+    assert!(rt; tree_of(alloc, TRUNCATED, Kind::Sha1).is_err());
 }
 
 /// A commit is copied, also through its owned form.
 #[test]
 fn copies_commit_and_rejects_truncated_one(rt: HostRuntime) {
     let alloc = rt.alloc();
-    assert!(rt; is_copy(copy_of(alloc, MERGE, Kind::Sha1), MERGE));
-    assert!(rt; is_copy(owned_copy_of(alloc, MERGE, Kind::Sha1), MERGE));
-    assert!(rt; is_not_read(alloc));
+    assert!(rt; is_copy(&copy_of(alloc, MERGE, Kind::Sha1), MERGE));
+    assert!(rt; is_copy(&owned_copy_of(alloc, MERGE, Kind::Sha1), MERGE));
+    assert!(rt;
+        matches!(
+            &copy_of(alloc, TRUNCATED, Kind::Sha1),
+            Err(CopyError::Read(_))
+        )
+    );
 }
 
-/// Counts the values of a header. `None` if memory runs out.
-fn count_of(alloc: Global, commit: &CommitRef<'_>, name: &str) -> Option<usize>
-    requires { IsIdHex (commit_lines commit.now).tree }
-{
-    match values_of(alloc, commit, name) {
-        Ok(values) => Some(values.len()),
-        Err(_) => None,
-    }
-}
-
-/// Whether the commit has its signature and one header `x`.
+/// Whether the commit has its signature, one header `x`, and no header `y`.
 fn has_headers(alloc: Global, commit: &CommitRef<'_>) -> bool
     requires { IsIdHex (commit_lines commit.now).tree }
 {
-    value_of(commit, "gpgsig") == Some(BStr::new(b"A\nB\n"))
-        && count_of(alloc, commit, "x") == Some(1)
+    let has_one = matches!(&values_of(alloc, commit, "x"), Ok(values) if values.len() == 1);
+    has_one
+        && value_of(commit, "gpgsig") == Some(BStr::new(b"A\nB\n"))
+        && value_of(commit, "x") == Some(BStr::new(b"1"))
+        && value_of(commit, "y").is_none()
 }
 
 /// Whether the signature is the second header of the owned commit.

@@ -1,8 +1,7 @@
-//! Walks through a caller's own store of two commits and their trees, and logs of them.
+//! Walks through a caller's own store of three commits and their trees, and logs of them.
 
 use gix_object::hash::{Kind as HashKind, ObjectId};
-use gix_object::tree::Entry;
-use gix_object::{Data, Kind};
+use gix_object::{Data, Exists, FindHeader, Kind};
 use gix_object_tests::samples::{id, path_of};
 use gixobj_callers::history::{Error, ancestor, entry_of, history_len};
 use gixobj_callers::shelf::Shelf;
@@ -60,75 +59,65 @@ fn object(hex: &[u8], kind: Kind, bytes: &'static [u8]) -> (ObjectId, Data<'stat
     (id(hex), Data::new(bytes, kind, HashKind::Sha1))
 }
 
-/// Both commits and both trees, with their ids.
-fn objects() -> [(ObjectId, Data<'static>); 4] {
+/// The merge, the second commit, the first, and both trees, with their ids.
+fn objects() -> [(ObjectId, Data<'static>); 5] {
     [
+        object(MERGE, Kind::Commit, MERGE_BYTES),
         object(SECOND, Kind::Commit, SECOND_BYTES),
-        object(BAK, Kind::Tree, BAK_BYTES),
         object(FIRST, Kind::Commit, FIRST_BYTES),
+        object(BAK, Kind::Tree, BAK_BYTES),
         object(ROOT, Kind::Tree, ROOT_BYTES),
     ]
 }
 
-/// The ancestor `generations` commits before the second commit.
-fn ancestor_at(alloc: Global, generations: u32) -> Result<ObjectId, Error> {
-    let objects = objects();
+#[test]
+fn finds_object_on_shelf(rt: HostRuntime) {
+    let (objects, bak) = (objects(), id(BAK));
     let store = Shelf { objects: &objects };
-    ancestor(alloc, &store, id(SECOND), generations)
-}
-
-/// Whether the ancestor `generations` commits before the second one has this id.
-fn is_ancestor(alloc: Global, generations: u32, hex: &[u8]) -> bool {
-    ancestor_at(alloc, generations).ok() == Some(id(hex))
-}
-
-/// Whether a walk over `generations` commits reaches a commit without parents.
-fn has_no_ancestor(alloc: Global, generations: u32) -> bool {
-    matches!(&ancestor_at(alloc, generations), Err(Error::NoParent(_)))
+    let header = store.try_header(bak.as_oid());
+    assert!(rt; matches!(&header, Ok(Some(it)) if it.kind == Kind::Tree && it.size == 36));
+    assert!(rt; store.exists(bak.as_oid()));
+    assert!(rt; !store.exists(ObjectId::empty_blob(HashKind::Sha1).as_oid()));
 }
 
 #[test]
 fn finds_ancestor_in_each_generation(rt: HostRuntime) {
     let alloc = rt.alloc();
-    assert!(rt; is_ancestor(alloc, 0, SECOND));
-    assert!(rt; is_ancestor(alloc, 1, FIRST));
-    assert!(rt; has_no_ancestor(alloc, 2));
-}
-
-/// The entry at a path in the tree of a commit.
-fn at(alloc: Global, commit: &[u8], names: &[&str]) -> Result<Option<Entry>, Error> {
     let objects = objects();
     let store = Shelf { objects: &objects };
-    entry_of(alloc, &store, id(commit), &path_of(alloc, names))
-}
-
-/// Whether the entry is the file of the inner tree.
-fn is_version_1(entry: &Entry) -> bool {
-    entry.oid == id(VERSION_1) && entry.filename.as_bytes() == b"test.txt".as_slice()
+    assert!(rt; ancestor(alloc, &store, id(SECOND), 0).ok() == Some(id(SECOND)));
+    assert!(rt; ancestor(alloc, &store, id(SECOND), 1).ok() == Some(id(FIRST)));
+    assert!(rt;
+        matches!(
+            &ancestor(alloc, &store, id(SECOND), 2),
+            Err(Error::NoParent(_))
+        )
+    );
 }
 
 /// Names the result of the lookup of a path in the tree of a commit.
 fn found_at(alloc: Global, commit: &[u8], names: &[&str]) -> &'static str {
-    match &at(alloc, commit, names) {
-        Ok(Some(entry)) if is_version_1(entry) => "version 1",
+    let objects = objects();
+    let store = Shelf { objects: &objects };
+    match &entry_of(alloc, &store, id(commit), &path_of(alloc, names)) {
+        Ok(Some(it))
+            if it.oid == id(VERSION_1) && it.filename.as_bytes() == b"test.txt".as_slice() => {
+            "version 1"
+        }
         Ok(None) => "nothing",
         Err(Error::Commit(_)) => "no commit",
         _ => "otherwise",
     }
 }
 
+/// The last lookup is of a tree as a commit.
 #[test]
-fn finds_entries_at_paths(rt: HostRuntime) {
+fn finds_entries_at_paths_of_commits_only(rt: HostRuntime) {
     let alloc = rt.alloc();
     assert!(rt; found_at(alloc, SECOND, &["bak", "test.txt"]) == "version 1");
     assert!(rt; found_at(alloc, FIRST, &["test.txt"]) == "version 1");
     assert!(rt; found_at(alloc, SECOND, &["bak", "new.txt"]) == "nothing");
-}
-
-/// A tree is looked up as a commit.
-#[test]
-fn rejects_tree_as_commit(rt: HostRuntime) {
-    assert!(rt; found_at(rt.alloc(), ROOT, &["bak"]) == "no commit");
+    assert!(rt; found_at(alloc, ROOT, &["bak"]) == "no commit");
 }
 
 /// Whether this is the commit of that id and title, by the author of both.
@@ -147,6 +136,10 @@ fn are_both(second: &LoggedCommit, first: &LoggedCommit) -> bool {
 /// Names the end of a log of commits.
 fn end_name(log: &CommitLog) -> &'static str {
     match (log.commits.as_slice(), &log.end) {
+        ([merge, second, first], LogEnd::Root)
+            if is_logged(merge, MERGE, b"Merge the side") && are_both(second, first) => {
+            "merge and both"
+        }
         ([second, first], LogEnd::Root) if are_both(second, first) => "both",
         ([_], LogEnd::Unread { id: at, .. }) if *at == id(FIRST) => "second, without first",
         ([_], LogEnd::TooLong { id: at }) if *at == id(FIRST) => "second, before first",
@@ -155,90 +148,36 @@ fn end_name(log: &CommitLog) -> &'static str {
     }
 }
 
-/// The object with this id. With the id `ROOT` if it is the one that is left out.
-fn object_unless(
-    without: &[u8],
-    hex: &[u8],
-    kind: Kind,
-    bytes: &'static [u8],
-) -> (ObjectId, Data<'static>) {
-    if hex == without {
-        object(ROOT, kind, bytes)
-    } else {
-        object(hex, kind, bytes)
-    }
-}
-
-/// Names the end of a log of the second commit, over a store without these objects, with at most `max_commits`.
-fn logged(alloc: Global, without: &[u8], max_commits: u32) -> &'static str {
-    let kept = [
-        object_unless(without, SECOND, Kind::Commit, SECOND_BYTES),
-        object_unless(without, BAK, Kind::Tree, BAK_BYTES),
-        object_unless(without, FIRST, Kind::Commit, FIRST_BYTES),
-        object_unless(without, ROOT, Kind::Tree, ROOT_BYTES),
-    ];
-    let store = Shelf { objects: &kept };
-    match log(alloc, &store, id(SECOND), max_commits) {
-        Ok(log) => end_name(&log),
+/// Names the end of a log over a store of the first `count` objects, with at most `max_commits`.
+fn logged(alloc: Global, count: usize, tip: &[u8], max_commits: u32) -> &'static str {
+    let all = objects();
+    let store = Shelf {
+        objects: all.get(..count).unwrap_or(&[]),
+    };
+    match &log(alloc, &store, id(tip), max_commits) {
+        Ok(log) => end_name(log),
         Err(_) => "no log",
     }
 }
 
+/// The log of the merge is the one that `git log --first-parent` prints. No log needs the trees.
 #[test]
-fn lists_commits_by_first_parents(rt: HostRuntime) {
+fn logs_commits_by_first_parents(rt: HostRuntime) {
     let alloc = rt.alloc();
-    assert!(rt; logged(alloc, BAK, 2) == "both");
-    assert!(rt; logged(alloc, BAK, 1) == "second, before first");
-    assert!(rt; logged(alloc, BAK, 0) == "none");
-    assert!(rt; logged(alloc, FIRST, 2) == "second, without first");
-}
-
-/// The merge, and its ancestors by first parents.
-fn merged() -> [(ObjectId, Data<'static>); 3] {
-    [
-        object(MERGE, Kind::Commit, MERGE_BYTES),
-        object(SECOND, Kind::Commit, SECOND_BYTES),
-        object(FIRST, Kind::Commit, FIRST_BYTES),
-    ]
-}
-
-/// Whether a log has the ids, titles and authors of the merge and its ancestors, and ends at the root.
-fn is_of_merge(log: &CommitLog) -> bool {
-    match (log.commits.as_slice(), &log.end) {
-        ([merge, second, first], LogEnd::Root) => {
-            is_logged(merge, MERGE, b"Merge the side") && are_both(second, first)
-        }
-        _ => false,
-    }
-}
-
-/// Whether the log of the merge is the one that `git log --first-parent` prints.
-fn is_log_of_merge(alloc: Global) -> bool {
-    let objects = merged();
-    let store = Shelf { objects: &objects };
-    match log(alloc, &store, id(MERGE), 9) {
-        Ok(log) => is_of_merge(&log),
-        Err(_) => false,
-    }
-}
-
-#[test]
-fn logs_merge_by_first_parents(rt: HostRuntime) {
-    assert!(rt; is_log_of_merge(rt.alloc()));
-}
-
-/// The number of commits of the merge's history, with at most `max_commits`.
-fn len_of_merge(alloc: Global, max_commits: u32) -> Option<usize> {
-    let objects = merged();
-    let store = Shelf { objects: &objects };
-    history_len(alloc, &store, id(MERGE), max_commits).ok()?
+    assert!(rt; logged(alloc, 3, MERGE, 9) == "merge and both");
+    assert!(rt; logged(alloc, 5, SECOND, 2) == "both");
+    assert!(rt; logged(alloc, 3, SECOND, 1) == "second, before first");
+    assert!(rt; logged(alloc, 3, SECOND, 0) == "none");
+    assert!(rt; logged(alloc, 2, SECOND, 2) == "second, without first");
 }
 
 /// The number is the one that `git rev-list --first-parent --count` prints.
 #[test]
 fn counts_commits_by_first_parents(rt: HostRuntime) {
     let alloc = rt.alloc();
-    assert!(rt; len_of_merge(alloc, 9) == Some(3));
-    assert!(rt; len_of_merge(alloc, 3) == Some(3));
-    assert!(rt; len_of_merge(alloc, 2) == None);
+    let objects = objects();
+    let store = Shelf { objects: &objects };
+    assert!(rt; matches!(&history_len(alloc, &store, id(MERGE), 9), Ok(Some(3))));
+    assert!(rt; matches!(&history_len(alloc, &store, id(MERGE), 3), Ok(Some(3))));
+    assert!(rt; matches!(&history_len(alloc, &store, id(MERGE), 2), Ok(None)));
 }

@@ -10,4 +10,4 @@ mod history;
 #[cfg(test)]
 mod listing;
 #[cfg(test)]
-mod values_and_objects;
+mod samples;

@@ -1,9 +1,10 @@
 //! Lists and comparisons of two small trees, with the results of `git ls-tree -r` and `git diff-tree -r`.
 
-use gix_object::hash::{Kind as HashKind, ObjectId};
-use gix_object::tree::EntryKind;
+use crate::samples::has_names;
+use gix_object::hash::Kind as HashKind;
+use gix_object::tree::{EntryKind, EntryMode};
 use gix_object::{Memory, Tree};
-use gix_object_tests::samples::{id, path_of, tree_of};
+use gix_object_tests::samples::{id, tree_of};
 use gixobj_listings::differences::{Change, changes};
 use gixobj_listings::listing::{File, ListError, UnreadError, files_of};
 use std::alloc::Global;
@@ -38,162 +39,120 @@ const SECOND_DEEP: &[u8] = b"b44c656b4143fb2c41a33dc73f2c83d3995b04b8";
 
 const A_TXT: &[u8] = b"dfcec44e7a32446d48ecfd378aa5d18bdee4bf74";
 
-/// What `git ls-tree -r` prints for the first tree, without the kinds.
-const LISTING: &[u8] = b"100644 ce013625030ba8dba906f756967f9e9ca394464a a.txt\n\
-    100644 b68025345d5301abad4d9ec9166f455243a0d746 docs-z\n\
-    100644 587be6b4c3f93f93c489c0111bba5596147a26cb docs/deep/x\n\
-    100755 e69de29bb2d1d6434b8b29ae775ad8c2e48c5391 docs/run.sh\n\
-    120000 8d14cbf983b3fad683171c9418998d9f68340823 link\n";
+/// An entry of a tree: kind, name and id.
+type EntryRow = (EntryKind, &'static [u8], &'static [u8]);
 
-/// What `git diff-tree -r --name-status` prints for both trees.
-pub(crate) const CHANGES: &[u8] = b"D a.txt\nA a.txt/in\nM docs/deep/x\nM docs/run.sh\n";
-
-/// The first tree; `docs` has this id.
-fn first_tree(alloc: Global, docs: &[u8]) -> Tree {
-    tree_of(
-        alloc,
-        &[
-            (EntryKind::Blob, b"a.txt", id(HELLO)),
-            (EntryKind::Blob, b"docs-z", id(Z)),
-            (EntryKind::Tree, b"docs", id(docs)),
-            (EntryKind::Link, b"link", id(LINK)),
-        ],
-    )
-}
-
-/// A directory `docs`, with a directory `deep` and a file `run.sh` of this kind.
-fn docs_tree(alloc: Global, deep: &[u8], kind: EntryKind) -> Tree {
-    tree_of(
-        alloc,
-        &[
-            (EntryKind::Tree, b"deep", id(deep)),
-            (kind, b"run.sh", id(EMPTY)),
-        ],
-    )
-}
-
-/// A directory of one file.
-fn one_file(alloc: Global, name: &[u8], file: &[u8]) -> Tree {
-    tree_of(alloc, &[(EntryKind::Blob, name, id(file))])
-}
+/// The first tree.
+const FIRST_TREE: &[EntryRow] = &[
+    (EntryKind::Blob, b"a.txt", HELLO),
+    (EntryKind::Blob, b"docs-z", Z),
+    (EntryKind::Tree, b"docs", DOCS),
+    (EntryKind::Link, b"link", LINK),
+];
 
 /// The second tree.
-fn second_tree(alloc: Global) -> Tree {
-    tree_of(
-        alloc,
+const SECOND_TREE: &[EntryRow] = &[
+    (EntryKind::Tree, b"a.txt", A_TXT),
+    (EntryKind::Blob, b"docs-z", Z),
+    (EntryKind::Tree, b"docs", SECOND_DOCS),
+    (EntryKind::Link, b"link", LINK),
+];
+
+/// Both trees and their directories, with their ids.
+const TREES: [(&[EntryRow], &[u8]); 7] = [
+    (&[(EntryKind::Blob, b"x", X)], DEEP),
+    (
         &[
-            (EntryKind::Tree, b"a.txt", id(A_TXT)),
-            (EntryKind::Blob, b"docs-z", id(Z)),
-            (EntryKind::Tree, b"docs", id(SECOND_DOCS)),
-            (EntryKind::Link, b"link", id(LINK)),
+            (EntryKind::Tree, b"deep", DEEP),
+            (EntryKind::BlobExecutable, b"run.sh", EMPTY),
         ],
-    )
-}
+        DOCS,
+    ),
+    (FIRST_TREE, FIRST),
+    (&[(EntryKind::Blob, b"x", CHANGED)], SECOND_DEEP),
+    (&[(EntryKind::Blob, b"in", IN)], A_TXT),
+    (
+        &[
+            (EntryKind::Tree, b"deep", SECOND_DEEP),
+            (EntryKind::Blob, b"run.sh", EMPTY),
+        ],
+        SECOND_DOCS,
+    ),
+    (SECOND_TREE, SECOND),
+];
 
-/// Whether a tree is written with this id.
-fn is_written(store: &mut Memory, tree: &Tree, hex: &[u8]) -> bool {
-    store.write(HashKind::Sha1, tree).ok() == Some(id(hex))
-}
+/// The files that `git ls-tree -r` prints for the first tree: kinds, ids and paths.
+const LISTING: [(EntryKind, &[u8], &[&str]); 5] = [
+    (EntryKind::Blob, HELLO, &["a.txt"]),
+    (EntryKind::Blob, Z, &["docs-z"]),
+    (EntryKind::Blob, X, &["docs", "deep", "x"]),
+    (EntryKind::BlobExecutable, EMPTY, &["docs", "run.sh"]),
+    (EntryKind::Link, LINK, &["link"]),
+];
 
-/// Whether the first tree and its directories are written with git's ids.
-fn writes_first(alloc: Global, store: &mut Memory) -> bool {
-    is_written(store, &one_file(alloc, b"x", X), DEEP)
-        && is_written(
-            store,
-            &docs_tree(alloc, DEEP, EntryKind::BlobExecutable),
-            DOCS,
-        )
-        && is_written(store, &first_tree(alloc, DOCS), FIRST)
-}
+/// A change as `git diff-tree -r --name-status` prints it: its letter, and the names of its path.
+type ChangeRow = (&'static str, &'static [&'static str]);
 
-/// Whether the second tree and its directories are written with git's ids.
-fn writes_second(alloc: Global, store: &mut Memory) -> bool {
-    is_written(store, &one_file(alloc, b"x", CHANGED), SECOND_DEEP)
-        && is_written(store, &one_file(alloc, b"in", IN), A_TXT)
-        && is_written(
-            store,
-            &docs_tree(alloc, SECOND_DEEP, EntryKind::Blob),
-            SECOND_DOCS,
-        )
-        && is_written(store, &second_tree(alloc), SECOND)
+/// What it prints for both trees.
+pub(crate) const CHANGES: [ChangeRow; 4] = [
+    ("D", &["a.txt"]),
+    ("A", &["a.txt", "in"]),
+    ("M", &["docs", "deep", "x"]),
+    ("M", &["docs", "run.sh"]),
+];
+
+/// The tree of these entries. With fewer if memory runs out.
+fn tree_in(alloc: Global, rows: &[EntryRow]) -> Tree {
+    let mut entries = Vec::new(alloc);
+    for &(kind, name, hex) in rows {
+        let _ = entries.push((kind, name, id(hex)));
+    }
+    tree_of(alloc, &entries)
 }
 
 /// A store of both trees; whether they have git's ids.
 pub(crate) fn store(alloc: Global) -> (Memory, bool) {
     let mut store = Memory::new(alloc);
-    let first = writes_first(alloc, &mut store);
-    let second = writes_second(alloc, &mut store);
-    (store, first && second)
-}
-
-/// Whether bytes are appended to a text.
-fn appends(out: &mut Vec<u8>, bytes: &[u8]) -> bool {
-    out.extend_from_slice(bytes).is_ok()
-}
-
-/// Whether the names of a path are appended with slashes between them, and a newline.
-fn appends_path(out: &mut Vec<u8>, path: &[bstr::BString]) -> bool {
-    let mut is_done = true;
-    let mut before: &[u8] = b" ";
-    for name in path {
-        is_done = is_done && appends(out, before) && appends(out, name.as_bytes());
-        before = b"/";
+    let mut has_ids = true;
+    for &(rows, hex) in &TREES {
+        let written = store.write(HashKind::Sha1, &tree_in(alloc, rows));
+        has_ids = written.ok() == Some(id(hex)) && has_ids;
     }
-    is_done && appends(out, b"\n")
+    (store, has_ids)
 }
 
-/// Whether a line is appended for a file.
-fn appends_file(out: &mut Vec<u8>, file: &File) -> bool {
-    let mut digits = [0; 6];
-    appends(out, file.mode.as_bytes(&mut digits).as_bytes())
-        && appends(out, b" ")
-        && file.id.write_hex_to(out).is_ok()
-        && appends_path(out, &file.path)
-}
-
-/// Whether a line is appended for each file.
-fn appends_files(out: &mut Vec<u8>, files: &[File]) -> bool {
-    let mut is_done = true;
-    for file in files {
-        is_done = is_done && appends_file(out, file);
-    }
-    is_done
-}
-
-/// The letter of a change.
-fn letter(change: &Change) -> &'static [u8] {
-    match (change.before, change.after) {
-        (None, _) => b"A",
-        (_, None) => b"D",
-        _ => b"M",
-    }
-}
-
-/// Whether a line is appended for each change.
-pub(crate) fn appends_changes(out: &mut Vec<u8>, changes: &[Change]) -> bool {
-    let mut is_done = true;
-    for change in changes {
-        is_done = is_done && appends(out, letter(change)) && appends_path(out, &change.path);
-    }
-    is_done
+/// Whether a listed file has this kind, id and path.
+fn is_file(alloc: Global, file: &File, kind: EntryKind, hex: &[u8], names: &[&str]) -> bool {
+    file.mode == EntryMode::from(kind) && file.id == id(hex) && has_names(alloc, &file.path, names)
 }
 
 /// Whether the files of the first tree are listed as git lists them.
-fn is_listed(alloc: Global, store: &Memory) -> bool {
-    let mut out = Vec::new(alloc);
-    match files_of(alloc, store, id(FIRST), 3) {
-        Ok(files) => appends_files(&mut out, &files) && out.as_slice() == LISTING,
-        Err(_) => false,
+fn are_listed(alloc: Global, files: &[File]) -> bool {
+    for (file, &(kind, hex, names)) in files.iter().zip(&LISTING) {
+        if !is_file(alloc, file, kind, hex, names) {
+            return false;
+        }
+    }
+    files.len() == LISTING.len()
+}
+
+/// The letter of a change.
+fn letter(change: &Change) -> &'static str {
+    match (change.before, change.after) {
+        (None, _) => "A",
+        (_, None) => "D",
+        _ => "M",
     }
 }
 
-/// Whether the changes between two trees are these lines.
-fn are_changes(alloc: Global, store: &Memory, from: ObjectId, to: ObjectId, lines: &[u8]) -> bool {
-    let mut out = Vec::new(alloc);
-    match changes(alloc, store, from, to, 3) {
-        Ok(found) => appends_changes(&mut out, &found) && out.as_slice() == lines,
-        Err(_) => false,
+/// Whether these are the changes of the rows.
+pub(crate) fn are_changes(alloc: Global, changes: &[Change], rows: &[ChangeRow]) -> bool {
+    for (change, &(wanted, names)) in changes.iter().zip(rows) {
+        if letter(change) != wanted || !has_names(alloc, &change.path, names) {
+            return false;
+        }
     }
+    changes.len() == rows.len()
 }
 
 #[test]
@@ -201,68 +160,62 @@ fn lists_files_and_changes_as_git(rt: HostRuntime) {
     let alloc = rt.alloc();
     let (store, has_ids) = store(alloc);
     assert!(rt; has_ids);
-    assert!(rt; is_listed(alloc, &store));
-    assert!(rt; are_changes(alloc, &store, id(FIRST), id(SECOND), CHANGES));
-    assert!(rt; are_changes(alloc, &store, id(FIRST), id(FIRST), b""));
+    let files = files_of(alloc, &store, id(FIRST), 3);
+    assert!(rt; matches!(&files, Ok(files) if are_listed(alloc, files)));
+    let changed = changes(alloc, &store, id(FIRST), id(SECOND), 3);
+    assert!(rt; matches!(&changed, Ok(found) if are_changes(alloc, found, &CHANGES)));
+    let unchanged = changes(alloc, &store, id(FIRST), id(FIRST), 3);
+    assert!(rt; matches!(&unchanged, Ok(found) if found.is_empty()));
 }
 
-/// Whether the path of a directory has these names.
-fn has_names(alloc: Global, path: &[bstr::BString], names: &[&str]) -> bool {
-    path == path_of(alloc, names).as_slice()
-}
-
-/// Whether a listing stops at the directory `docs/deep`, which is too deep.
-fn stops_at_depth(alloc: Global, store: &Memory) -> bool {
-    match files_of(alloc, store, id(FIRST), 2) {
+/// Names the directory at which a listing stops, and the cause, if its path has these names.
+fn stops_at(alloc: Global, listed: &Result<Vec<File>, ListError>, names: &[&str]) -> &'static str {
+    match listed {
+        Err(ListError::Directory { path, .. }) if !has_names(alloc, path, names) => "another path",
         Err(
             ListError::Directory {
-                path,
-                id: found,
+                id: at,
                 cause: UnreadError::TooDeep,
+                ..
             },
-        ) => { found == id(DEEP) && has_names(alloc, &path, &["docs", "deep"]) }
-        _ => false,
+        ) if *at == id(DEEP) => "deep, too deep",
+        Err(
+            ListError::Directory {
+                id: at,
+                cause: UnreadError::Tree(_),
+                ..
+            },
+        ) if *at == id(DOCS) => "docs, not read",
+        _ => "otherwise",
     }
 }
 
-/// Whether a listing stops at the directory `docs`, which the store lacks.
-fn stops_at_missing(alloc: Global) -> bool {
+/// A store of the first tree without its directories.
+fn store_of_first(alloc: Global) -> Memory {
     let mut store = Memory::new(alloc);
-    let _ = store.write(HashKind::Sha1, &first_tree(alloc, DOCS));
-    match files_of(alloc, &store, id(FIRST), 3) {
-        Err(
-            ListError::Directory {
-                path,
-                id: found,
-                cause: UnreadError::Tree(_),
-            },
-        ) => { found == id(DOCS) && has_names(alloc, &path, &["docs"]) }
-        _ => false,
-    }
+    let _ = store.write(HashKind::Sha1, &tree_in(alloc, FIRST_TREE));
+    store
 }
 
 #[test]
 fn stops_at_first_directory_that_is_not_read(rt: HostRuntime) {
     let alloc = rt.alloc();
     let (store, _) = store(alloc);
-    assert!(rt; stops_at_depth(alloc, &store));
-    assert!(rt; stops_at_missing(alloc));
+    let listed = files_of(alloc, &store, id(FIRST), 2);
+    assert!(rt; stops_at(alloc, &listed, &["docs", "deep"]) == "deep, too deep");
+    let listed = files_of(alloc, &store_of_first(alloc), id(FIRST), 3);
+    assert!(rt; stops_at(alloc, &listed, &["docs"]) == "docs, not read");
 }
 
-/// Whether a removed file is found, though the store lacks the directory that both trees have.
-fn compares_without_equal_directories(alloc: Global) -> bool {
-    let mut store = Memory::new(alloc);
-    let first = store.write(HashKind::Sha1, &first_tree(alloc, DOCS));
-    let docs = tree_of(alloc, &[(EntryKind::Tree, b"docs", id(DOCS))]);
-    match (first, store.write(HashKind::Sha1, &docs)) {
-        (Ok(first), Ok(docs)) => {
-            are_changes(alloc, &store, first, docs, b"D a.txt\nD docs-z\nD link\n")
-        }
-        _ => false,
-    }
-}
+/// Changes to a tree that has only the directory `docs`. The store lacks it; both trees have it.
+const TO_DOCS: [ChangeRow; 3] = [("D", &["a.txt"]), ("D", &["docs-z"]), ("D", &["link"])];
 
 #[test]
 fn opens_no_equal_directories(rt: HostRuntime) {
-    assert!(rt; compares_without_equal_directories(rt.alloc()));
+    let alloc = rt.alloc();
+    let mut store = store_of_first(alloc);
+    let docs = tree_in(alloc, &[(EntryKind::Tree, b"docs", DOCS)]);
+    let docs = store.write(HashKind::Sha1, &docs).unwrap_or(id(b""));
+    let changed = changes(alloc, &store, id(FIRST), docs, 3);
+    assert!(rt; matches!(&changed, Ok(found) if are_changes(alloc, found, &TO_DOCS)));
 }

@@ -1,6 +1,6 @@
 //! Round trips of trees, and a loose object whose id is verified.
 
-use super::is_copy;
+use crate::samples::is_copy;
 use gix_object::hash::Kind;
 use gix_object::{Tree, TreeRef, decode};
 use gix_object_tests::samples::id;
@@ -29,18 +29,7 @@ fn tree_of(alloc: Global, bytes: &[u8]) -> Result<Tree, decode::Error> {
 
 /// Whether a tree equals its decoded encoding.
 fn round_trips(alloc: Global, tree: &Tree) -> bool {
-    match round_trip(alloc, tree, Kind::Sha1) {
-        Ok(same) => same == *tree,
-        Err(_) => false,
-    }
-}
-
-/// Whether a decoded tree equals its decoded encoding.
-fn decoded_tree_round_trips(alloc: Global, bytes: &[u8]) -> bool {
-    match tree_of(alloc, bytes) {
-        Ok(tree) => round_trips(alloc, &tree),
-        Err(_) => false,
-    }
+    matches!(&round_trip(alloc, tree, Kind::Sha1), Ok(same) if *same == *tree)
 }
 
 #[test]
@@ -48,27 +37,17 @@ fn copies_tree_and_rejects_truncated_one(rt: HostRuntime) {
     let alloc = rt.alloc();
     assert!(rt; is_tree(TREE, Kind::Sha1));
     assert!(rt; !is_tree(TRUNCATED, Kind::Sha1));
-    assert!(rt; is_copy(tree_copy_of(alloc, TREE, Kind::Sha1), TREE));
+    assert!(rt; is_copy(&tree_copy_of(alloc, TREE, Kind::Sha1), TREE));
     assert!(rt; tree_copy_of(alloc, TRUNCATED, Kind::Sha1).is_err());
-    assert!(rt; decoded_tree_round_trips(alloc, TREE));
-}
-
-fn content_name(is_blob: bool) -> &'static str {
-    if is_blob { "the blob" } else { "otherwise" }
-}
-
-/// Names the result of taking over a loose object under the id of the blob.
-fn outcome(alloc: Global, loose: &[u8]) -> &'static str {
-    match taken_over(alloc, loose, id(HELLO_ID).as_oid()) {
-        Ok(content) => content_name(content.as_slice() == HELLO),
-        Err(TakeError::Verify(_)) => "another id",
-        _ => "otherwise",
-    }
+    let tree = tree_of(alloc, TREE);
+    assert!(rt; matches!(&tree, Ok(tree) if round_trips(alloc, tree)));
 }
 
 #[test]
 fn takes_over_blob_only_under_its_id(rt: HostRuntime) {
     let alloc = rt.alloc();
-    assert!(rt; outcome(alloc, b"blob 6\0hello\n") == "the blob");
-    assert!(rt; outcome(alloc, b"blob 5\0hello") == "another id");
+    let hello = id(HELLO_ID);
+    assert!(rt; is_copy(&taken_over(alloc, b"blob 6\0hello\n", hello.as_oid()), HELLO));
+    let other = taken_over(alloc, b"blob 5\0hello", hello.as_oid());
+    assert!(rt; matches!(&other, Err(TakeError::Verify(_))));
 }

@@ -2,6 +2,7 @@
 //! (gitformat-signature).
 
 use super::TRUNCATED;
+use crate::samples::is_copy;
 use bstr::{BString, ByteSlice};
 use gix_object::hash::Kind as HashKind;
 use gix_object::laws::{signed_commit_has_payload, signed_tag_has_payload};
@@ -68,6 +69,9 @@ const SIGNED_TAG: &[u8] = b"object ce013625030ba8dba906f756967f9e9ca394464a\n\
     A\n\
     -----END PGP SIGNATURE-----\n";
 
+/// The output of a program that signs.
+const CREATED: (&[u8], &[u8]) = (SIGNATURE, b"[GNUPG:] SIG_CREATED x\n");
+
 /// The reports of a program on a good signature, and on a bad one.
 const GOOD: &[u8] = b"[GNUPG:] GOODSIG K A\n[GNUPG:] TRUST_FULLY\n";
 
@@ -100,42 +104,25 @@ fn runner(
     }
 }
 
-/// A runner that signs, and expects these bytes as input.
-fn signer(alloc: Global, input: &'static [u8]) -> ExpectingRunner {
-    runner(alloc, input, None, (SIGNATURE, b"[GNUPG:] SIG_CREATED x\n"))
-}
-
-/// Copies bytes. Empty if memory runs out.
-fn copied(alloc: Global, bytes: &[u8]) -> Vec<u8> {
-    Vec::from_slice(alloc, bytes).unwrap_or(Vec::new(alloc))
-}
-
-/// The output of a program that succeeds.
+/// The output of a program that succeeds. Empty if memory runs out.
 fn output_of(alloc: Global, output: (&[u8], &[u8])) -> Output {
     let (stdout, stderr) = output;
     Output {
         success: true,
-        stdout: copied(alloc, stdout),
-        stderr: copied(alloc, stderr),
+        stdout: Vec::from_slice(alloc, stdout).unwrap_or(Vec::new(alloc)),
+        stderr: Vec::from_slice(alloc, stderr).unwrap_or(Vec::new(alloc)),
         result: None,
     }
 }
 
-/// Whether a call has one file with these bytes, or none.
-fn are_files(files: &[BString], wanted: Option<&[u8]>) -> bool {
-    match (files, wanted) {
-        ([file], Some(wanted)) => file.as_bytes() == wanted,
+/// Whether a call has this input, and one file with these bytes, or none.
+fn is_expected(call: &Call, input: &[u8], file: Option<&[u8]>) -> bool {
+    let has_file = match (call.files.as_slice(), file) {
+        ([it], Some(wanted)) => it.as_bytes() == wanted,
         ([], None) => true,
         _ => false,
-    }
-}
-
-/// Whether the input of a call has these bytes.
-fn is_input(input: &Option<BString>, wanted: &[u8]) -> bool {
-    match input {
-        Some(input) => input.as_bytes() == wanted,
-        None => false,
-    }
+    };
+    has_file && matches!(&call.input, Some(it) if it.as_bytes() == input)
 }
 
 impl Runner for ExpectingRunner {
@@ -145,7 +132,7 @@ impl Runner for ExpectingRunner {
 
     fn run(&mut self, call: &Call) -> Result<Output, RunError> {
         self.is_called = true;
-        if is_input(&call.input, self.input) && are_files(&call.files, self.file) {
+        if is_expected(call, self.input, self.file) {
             Ok(output_of(self.alloc, self.output))
         } else {
             Err(RunError::Spawn(BString::new(Vec::new(self.alloc))))
@@ -164,30 +151,20 @@ fn signing_options(alloc: Global) -> sign::Options {
     }
 }
 
-/// Whether a commit has the encoding `signed` after a runner that expects `payload` has signed it.
-fn is_written(alloc: Global, commit: Commit, payload: &'static [u8], signed: &[u8]) -> bool {
-    let mut runner = signer(alloc, payload);
-    match signed_payload(alloc, commit, signing_options(alloc), &mut runner) {
-        Ok(written) => written.as_slice() == signed,
-        Err(_) => false,
-    }
-}
-
 /// Decodes a commit into its owned form.
 fn commit_of(alloc: Global, content: &[u8]) -> Option<Commit> {
     match CommitRef::from_bytes(alloc, content, HashKind::Sha1) {
-        Ok(commit) => match commit.into_owned(alloc) {
-            Ok(owned) => Some(owned),
-            Err(_) => None,
-        },
+        Ok(commit) => commit.into_owned(alloc).ok(),
         Err(_) => None,
     }
 }
 
-/// Whether a decoded commit has the encoding `signed` after a runner that expects `payload` has signed it.
-fn is_signed_as(alloc: Global, content: &[u8], payload: &'static [u8], signed: &[u8]) -> bool {
+/// Whether a commit is `SIGNED` after a runner that expects `payload` has signed it.
+fn is_signed(alloc: Global, content: &[u8], payload: &'static [u8]) -> bool {
+    let mut runner = runner(alloc, payload, None, CREATED);
+    let options = signing_options(alloc);
     match commit_of(alloc, content) {
-        Some(commit) => is_written(alloc, commit, payload, signed),
+        Some(commit) => is_copy(&signed_payload(alloc, commit, options, &mut runner), SIGNED),
         None => false,
     }
 }
@@ -195,93 +172,57 @@ fn is_signed_as(alloc: Global, content: &[u8], payload: &'static [u8], signed: &
 #[test]
 fn signs_payload_without_old_signature(rt: HostRuntime) {
     let alloc = rt.alloc();
-    assert!(rt; is_signed_as(alloc, PLAIN, PLAIN, SIGNED));
-    assert!(rt; is_signed_as(alloc, SIGNED, PLAIN, SIGNED));
-    assert!(rt; !is_signed_as(alloc, PLAIN, SIGNED, SIGNED));
+    assert!(rt; is_signed(alloc, PLAIN, PLAIN));
+    assert!(rt; is_signed(alloc, SIGNED, PLAIN));
+    assert!(rt; !is_signed(alloc, PLAIN, SIGNED));
 }
 
-/// Whether the encoding of a commit is `wanted`.
-fn is_commit_encoding(alloc: Global, commit: &Commit, wanted: &[u8]) -> bool {
-    let mut content = Vec::new(alloc);
-    commit.write_to_vec(alloc, &mut content).is_ok() && content.as_slice() == wanted
-}
-
-/// The commit that the law of signed commits signs, with this payload. `None` if signing fails.
-fn signed_by_law(alloc: Global, commit: Commit, payload: &'static [u8]) -> Option<Commit> {
-    let mut runner = signer(alloc, payload);
+/// The commit that the law of signed commits signs, with this payload. `None` if one of both fails.
+fn signed_by_law(alloc: Global, content: &[u8], payload: &'static [u8]) -> Option<Commit> {
+    let mut runner = runner(alloc, payload, None, CREATED);
+    let commit = commit_of(alloc, content)?;
     signed_commit_has_payload(alloc, commit, signing_options(alloc), &mut runner).ok()
 }
 
-/// Whether a commit is `signed` after the law of signed commits has signed it, with this payload.
-fn is_signed_by_law(alloc: Global, commit: Commit, payload: &'static [u8], signed: &[u8]) -> bool {
-    match signed_by_law(alloc, commit, payload) {
-        Some(commit) => is_commit_encoding(alloc, &commit, signed),
-        None => false,
+/// The encoding of the commit that the law of signed commits signs, with this payload. Empty without one.
+fn encoding_by_law(alloc: Global, content: &[u8], payload: &'static [u8]) -> Vec<u8> {
+    let mut encoding = Vec::new(alloc);
+    if let Some(signed) = signed_by_law(alloc, content, payload) {
+        let _ = signed.write_to_vec(alloc, &mut encoding);
     }
+    encoding
 }
 
 /// Names the result of the search for a signature in a commit's encoding.
 fn search_name(alloc: Global, content: &[u8]) -> &'static str {
     match &CommitRefIter::signature(alloc, content, HashKind::Sha1) {
-        Ok(Some((signature, _))) => {
-            if signature.as_slice() == SIGNATURE {
-                "signer's"
-            } else {
-                "another"
-            }
-        }
+        Ok(Some((signature, _))) if signature.as_slice() == SIGNATURE => "signer's",
+        Ok(Some(_)) => "another",
         Ok(None) => "no signature",
         Err(decode::Error::Malformed) => "malformed",
         Err(_) => "otherwise",
     }
 }
 
-/// Names the result of the search in the encoding of a commit.
-fn searched_in(alloc: Global, commit: &Commit) -> &'static str {
-    let mut encoding = Vec::new(alloc);
-    if commit.write_to_vec(alloc, &mut encoding).is_ok() {
-        search_name(alloc, encoding.as_slice())
-    } else {
-        "not encoded"
-    }
-}
-
-/// The decoded commit after the law of signed commits has signed it. `None` if one of both fails.
-fn decoded_and_signed(alloc: Global, content: &[u8], payload: &'static [u8]) -> Option<Commit> {
-    match commit_of(alloc, content) {
-        Some(commit) => signed_by_law(alloc, commit, payload),
-        None => None,
-    }
-}
-
-/// Names the result of the search in the encoding of a decoded commit, after the law of signed commits has
-/// signed it, with this payload.
-fn searched_after_signing(alloc: Global, content: &[u8], payload: &'static [u8]) -> &'static str {
-    match decoded_and_signed(alloc, content, payload) {
-        Some(signed) => searched_in(alloc, &signed),
-        None => "not signed",
-    }
-}
-
 #[test]
 fn finds_signature_if_signed_commit_decodes(rt: HostRuntime) {
     let alloc = rt.alloc();
+    let signed = encoding_by_law(alloc, PLAIN, PLAIN);
+    assert!(rt; signed.as_slice() == SIGNED);
+    assert!(rt; search_name(alloc, &signed) == "signer's");
+    let folded = encoding_by_law(alloc, FOLDED, FOLDED_PAYLOAD);
+    assert!(rt; !folded.is_empty());
+    assert!(rt; search_name(alloc, &folded) == "malformed");
     assert!(rt; search_name(alloc, FOLDED) == "another");
-    assert!(rt; searched_after_signing(alloc, PLAIN, PLAIN) == "signer's");
-    assert!(rt; searched_after_signing(alloc, FOLDED, FOLDED_PAYLOAD) == "malformed");
 }
 
-/// Whether the encoding of a tag is `wanted`.
-fn is_tag_encoding(alloc: Global, tag: &Tag, wanted: &[u8]) -> bool {
+/// Whether a tag is `SIGNED_TAG` after the law of signed tags has signed it.
+fn is_signed_by_law(alloc: Global, tag: Tag) -> bool {
     let mut content = Vec::new(alloc);
-    tag.write_to_vec(alloc, &mut content).is_ok() && content.as_slice() == wanted
-}
-
-/// Whether a tag is `signed` after the law of signed tags has signed it, with this payload.
-fn is_tag_signed_by_law(alloc: Global, tag: Tag, payload: &'static [u8], signed: &[u8]) -> bool {
-    let mut runner = signer(alloc, payload);
+    let mut runner = runner(alloc, PLAIN_TAG, None, CREATED);
     match signed_tag_has_payload(alloc, tag, signing_options(alloc), &mut runner) {
-        Ok(tag) => is_tag_encoding(alloc, &tag, signed),
+        Ok(tag) => tag.write_to_vec(alloc, &mut content).is_ok()
+            && content.as_slice() == SIGNED_TAG,
         Err(_) => false,
     }
 }
@@ -295,12 +236,10 @@ fn tag_of(alloc: Global, content: &[u8]) -> Option<Tag> {
 }
 
 #[test]
-fn laws_of_signed_objects_sign(rt: HostRuntime) {
+fn law_of_signed_tags_signs_payload(rt: HostRuntime) {
     let alloc = rt.alloc();
-    let commit = commit_of(alloc, PLAIN).expect(&rt, "a commit");
-    assert!(rt; is_signed_by_law(alloc, commit, PLAIN, SIGNED));
     let tag = tag_of(alloc, SIGNED_TAG).expect(&rt, "a tag");
-    assert!(rt; is_tag_signed_by_law(alloc, tag, PLAIN_TAG, SIGNED_TAG));
+    assert!(rt; is_signed_by_law(alloc, tag));
 }
 
 /// Options of verification.
@@ -313,19 +252,11 @@ fn verifying_options(alloc: Global) -> verify::Options {
     }
 }
 
-/// Names an outcome.
-fn outcome_name(outcome: &Outcome) -> &'static str {
-    if outcome.is_valid() {
-        "accepted"
-    } else {
-        "not accepted"
-    }
-}
-
 /// Names the result of an audit.
 fn audit_name(audited: &Result<Option<Outcome>, AuditError>) -> &'static str {
     match audited {
-        Ok(Some(outcome)) => outcome_name(outcome),
+        Ok(Some(outcome)) if outcome.is_valid() => "accepted",
+        Ok(Some(_)) => "not accepted",
         Ok(None) => "no signature",
         Err(AuditError::NoRelease) => "no release",
         Err(AuditError::Read(decode::Error::Malformed)) => "malformed",
@@ -349,40 +280,32 @@ fn audited(
     (name, runner.is_called)
 }
 
-/// Whether an audit has this result and calls the runner.
-fn is_audited(
-    alloc: Global,
-    kind: Kind,
-    content: &[u8],
-    payload: &'static [u8],
-    report: &'static [u8],
-    wanted: &str,
-) -> bool {
-    let (name, is_called) = audited(alloc, kind, content, payload, report);
-    name == wanted && is_called
-}
+/// An object: its kind and content; the payload that the runner expects, and its report; the result of the
+/// audit, and whether it calls the runner.
+type AuditRow = (
+    Kind,
+    &'static [u8],
+    &'static [u8],
+    &'static [u8],
+    &'static str,
+    bool,
+);
 
-/// Whether an audit has this result without a call of the runner.
-fn is_audited_without_call(alloc: Global, kind: Kind, content: &[u8], wanted: &str) -> bool {
-    let (name, is_called) = audited(alloc, kind, content, PLAIN, GOOD);
-    name == wanted && !is_called
-}
-
-#[test]
-fn audits_signed_commits_and_tags(rt: HostRuntime) {
-    let alloc = rt.alloc();
-    let (commit, tag) = (Kind::Commit, Kind::Tag);
-    assert!(rt; is_audited(alloc, commit, SIGNED, PLAIN, GOOD, "accepted"));
-    assert!(rt; is_audited(alloc, commit, SIGNED, PLAIN, BAD, "not accepted"));
-    assert!(rt; is_audited(alloc, commit, SIGNED, SIGNED, GOOD, "not started"));
-    assert!(rt; is_audited(alloc, tag, SIGNED_TAG, PLAIN_TAG, GOOD, "accepted"));
-}
+const AUDITS: [AuditRow; 8] = [
+    (Kind::Commit, SIGNED, PLAIN, GOOD, "accepted", true),
+    (Kind::Commit, SIGNED, PLAIN, BAD, "not accepted", true),
+    (Kind::Commit, SIGNED, SIGNED, GOOD, "not started", true),
+    (Kind::Tag, SIGNED_TAG, PLAIN_TAG, GOOD, "accepted", true),
+    (Kind::Commit, PLAIN, PLAIN, GOOD, "no signature", false),
+    (Kind::Tag, PLAIN_TAG, PLAIN, GOOD, "no signature", false),
+    (Kind::Blob, SIGNED, PLAIN, GOOD, "no release", false),
+    (Kind::Commit, TRUNCATED, PLAIN, GOOD, "malformed", false),
+];
 
 #[test]
-fn calls_no_program_without_signed_release(rt: HostRuntime) {
-    let alloc = rt.alloc();
-    assert!(rt; is_audited_without_call(alloc, Kind::Commit, PLAIN, "no signature"));
-    assert!(rt; is_audited_without_call(alloc, Kind::Tag, PLAIN_TAG, "no signature"));
-    assert!(rt; is_audited_without_call(alloc, Kind::Blob, SIGNED, "no release"));
-    assert!(rt; is_audited_without_call(alloc, Kind::Commit, TRUNCATED, "malformed"));
+fn audits_and_calls_program_only_for_signed_release(rt: HostRuntime) {
+    for &(kind, content, payload, report, wanted, calls) in &AUDITS {
+        let (name, is_called) = audited(rt.alloc(), kind, content, payload, report);
+        assert!(rt; name == wanted && is_called == calls, "{wanted}");
+    }
 }

@@ -27,43 +27,26 @@ fn are_values(signers: &[TrailerRef<'_>], first: &[u8], second: &[u8]) -> bool {
     }
 }
 
-/// Whether the sign-offs of the commit have these values.
-fn are_signers(alloc: Global, first: &[u8], second: &[u8]) -> bool {
-    match signers_of(alloc, SIGNED, Kind::Sha1) {
-        Ok(signers) => are_values(&signers, first, second),
-        Err(_) => false,
-    }
-}
-
-/// Whether the input is rejected as malformed.
-fn is_malformed(alloc: Global, bytes: &[u8]) -> bool {
-    match signers_of(alloc, bytes, Kind::Sha1) {
-        Err(decode::Error::Malformed) => true,
-        _ => false,
-    }
-}
-
 #[test]
 fn finds_sign_offs_and_rejects_malformed_commit(rt: HostRuntime) {
     let alloc = rt.alloc();
-    assert!(rt; are_signers(alloc, b"A", b"C D"));
-    assert!(rt; is_malformed(alloc, b"tree 4b"));
+    let signers = signers_of(alloc, SIGNED, Kind::Sha1);
+    assert!(rt; matches!(&signers, Ok(signers) if are_values(signers, b"A", b"C D")));
+    let malformed = signers_of(alloc, b"tree 4b", Kind::Sha1);
+    assert!(rt; matches!(&malformed, Err(decode::Error::Malformed)));
 }
 
-/// Whether the last trailer of the commit has this token and this value.
-fn is_last_trailer(alloc: Global, commit: &CommitRef<'_>, token: &[u8], value: &[u8]) -> bool {
-    match last_trailer_of(alloc, commit) {
-        Ok(Some(trailer)) => {
-            trailer.token.as_bytes() == token && trailer.value.as_slice() == value
-        }
-        _ => false,
-    }
+/// Whether the trailer has this token and this value.
+fn is_trailer(trailer: &TrailerRef<'_>, token: &[u8], value: &[u8]) -> bool {
+    trailer.token.as_bytes() == token && trailer.value.as_slice() == value
 }
 
 /// Whether the last trailer of the encoded commit has this token and this value.
 fn ends_with_trailer(alloc: Global, bytes: &[u8], token: &[u8], value: &[u8]) -> bool {
     match CommitRef::from_bytes(alloc, bytes, Kind::Sha1) {
-        Ok(commit) => is_last_trailer(alloc, &commit, token, value),
+        Ok(commit) => {
+            matches!(&last_trailer_of(alloc, &commit), Ok(Some(it)) if is_trailer(it, token, value))
+        }
         Err(_) => false,
     }
 }
@@ -85,16 +68,8 @@ fn finds_last_trailer(rt: HostRuntime) {
     assert!(rt; ends_with_trailer(alloc, SIGNED, b"SIGNED-OFF-BY", b"C D"));
 }
 
-/// Counts the parts of a body. `None` if memory runs out.
-fn count_of_parts(alloc: Global, bytes: &[u8]) -> Option<usize> {
-    let body = BodyRef::from_bytes(bytes);
-    match parts_of(alloc, &body) {
-        Ok(parts) => Some(parts.len()),
-        Err(_) => None,
-    }
-}
-
 #[test]
 fn splits_body_into_parts(rt: HostRuntime) {
-    assert!(rt; count_of_parts(rt.alloc(), b"m\n\nSigned-off-by: 1\nn\nB: 2\n") == Some(2));
+    let body = BodyRef::from_bytes(b"m\n\nSigned-off-by: 1\nn\nB: 2\n");
+    assert!(rt; matches!(&parts_of(rt.alloc(), &body), Ok(parts) if parts.len() == 2));
 }

@@ -2,7 +2,8 @@
 ghost use Rattle.gix_object.specs.CommitViews.{commit_lines};
 ghost use Rattle.gix_object.specs.Hash.{IsIdHex};
 
-use super::{TREE as TARGET, is_copy};
+use super::TREE as TARGET;
+use crate::samples::is_copy;
 use bstr::BStr;
 use gix_object::hash::Kind;
 use gix_object::{CommitRef, TagRef};
@@ -21,39 +22,17 @@ const MERGE: &[u8] = b"tree 4b825dc642cb6eb9a060e54bf8d69288fbee4904\n\
     committer A <a@b> 0 +0000\n\
     mergetag object 4b825dc642cb6eb9a060e54bf8d69288fbee4904\n type tree\n tag v1\n\nhi\n";
 
-/// Whether the tag has its name.
-fn is_named(name: BStr<'_>) -> bool {
-    match TagRef::from_bytes(TAG, Kind::Sha1) {
-        Ok(tag) => checked_name(&tag) == Some(name),
-        Err(_) => false,
-    }
-}
-
+/// Both readers decode the tag.
 #[test]
-fn copies_tag_and_finds_target_and_name(rt: HostRuntime) {
-    assert!(rt; is_copy(tag_copy_of(rt.alloc(), TAG, Kind::Sha1), TAG));
-    assert!(rt; target_of(TAG, Kind::Sha1) == Some(id(TARGET)));
-    assert!(rt; is_named(BStr::new(b"v1")));
-}
-
-/// Whether both readers decode a tag with this name. `None` for malformed input.
-fn is_decoded_by_both(bytes: &[u8], name: BStr<'_>) -> Option<bool> {
-    let both = read_both_ways(bytes, Kind::Sha1)?;
-    Some(both.target == id(TARGET) && both.name == name)
-}
-
-#[test]
-fn decodes_tag_with_both_readers(rt: HostRuntime) {
-    assert!(rt; is_decoded_by_both(TAG, BStr::new(b"v1")) == Some(true));
-    assert!(rt; is_decoded_by_both(b"tag v1\n", BStr::new(b"v1")).is_none());
-}
-
-/// Whether the list is one decoded tag.
-fn is_one_tag<T, E>(tags: &[Result<T, E>]) -> bool {
-    match tags {
-        [tag] => tag.is_ok(),
-        _ => false,
-    }
+fn copies_and_decodes_tag(rt: HostRuntime) {
+    let (target, name) = (id(TARGET), BStr::new(b"v1"));
+    assert!(rt; is_copy(&tag_copy_of(rt.alloc(), TAG, Kind::Sha1), TAG));
+    assert!(rt; target_of(TAG, Kind::Sha1) == Some(target));
+    let tag = TagRef::from_bytes(TAG, Kind::Sha1);
+    assert!(rt; matches!(&tag, Ok(tag) if checked_name(tag) == Some(name)));
+    let both = read_both_ways(TAG, Kind::Sha1);
+    assert!(rt; matches!(&both, Some(it) if it.target == target && it.name == name));
+    assert!(rt; read_both_ways(b"tag v1\n", Kind::Sha1).is_none());
 }
 
 /// Whether the commit merges one tag that decodes.
@@ -61,7 +40,7 @@ fn merges_a_tag(alloc: Global, commit: &CommitRef<'_>) -> bool
     requires { IsIdHex (commit_lines commit.now).tree }
 {
     match merged_tags_of(alloc, commit) {
-        Ok(tags) => is_one_tag(&tags),
+        Ok(tags) => matches!(tags.as_slice(), [Ok(_)]),
         Err(_) => false,
     }
 }
