@@ -6,22 +6,27 @@ use gix_object::{OutOfMemory, find};
 use gixobj_directories::opening;
 use std::alloc::AllocError;
 
-/// Whether the error is an allocation failure.
-fn is_out_of_memory(error: opening::Error) -> bool {
-    matches!(&error, opening::Error::OutOfMemory)
-}
-
 #[test]
-fn converts_allocation_failures_to_out_of_memory(rt: HostRuntime) {
+fn converts_allocation_failures_and_malformed_trees(rt: HostRuntime) {
     let lookup = existing_object::Error::Find(find::Error::OutOfMemory);
-    assert!(rt; is_out_of_memory(opening::Error::from(AllocError)));
-    assert!(rt; is_out_of_memory(opening::Error::from(OutOfMemory)));
-    assert!(rt; is_out_of_memory(opening::Error::from(lookup)));
+    assert!(rt;
+        matches!(
+            &opening::Error::from(AllocError),
+            opening::Error::OutOfMemory
+        )
+    );
+    assert!(rt;
+        matches!(
+            &opening::Error::from(OutOfMemory),
+            opening::Error::OutOfMemory
+        )
+    );
+    assert!(rt; matches!(&opening::Error::from(lookup), opening::Error::OutOfMemory));
     assert!(rt; matches!(&Error::from(AllocError), Error::OutOfMemory));
-}
-
-#[test]
-fn converts_error_of_malformed_tree(rt: HostRuntime) {
-    let error = Error::from(opening::Error::MalformedTree);
-    assert!(rt; matches!(&error, Error::MalformedTree));
+    assert!(rt;
+        matches!(
+            &Error::from(opening::Error::MalformedTree),
+            Error::MalformedTree
+        )
+    );
 }

@@ -17,7 +17,6 @@ use gix_object::hash::{Kind as HashKind, ObjectId};
 use gix_object::tree::EntryKind;
 use gix_object::tree::editor::{Editor, Error, WriteError, Written};
 use gix_object::{Find, Tree};
-use std::alloc::Global;
 
 const TEST: &[u8] = b"1f7a7a472abf3dd9643fd615f6da379c4acb3e3a";
 
@@ -26,23 +25,11 @@ const BAK: &[u8] = b"d8329fc1cc938780ffdd9f94e0d364e0ea74f579";
 /// The tree of the file `a` with the first id.
 const A: &[u8] = b"a18166ad9dc2c46e84c28b674ab8be1e202f6f82";
 
-/// Whether a write error is displayed as `wanted`.
-fn is_reported(alloc: Global, error: &WriteError<u8>, wanted: &[u8]) -> bool {
-    match error.to_string(alloc) {
-        Ok(bytes) => bytes.as_bytes() == wanted,
-        Err(_) => false,
-    }
-}
-
 #[test]
 fn failed_out(rt: HostRuntime) {
-    assert!(rt;
-        is_reported(
-            rt.alloc(),
-            &WriteError::Out(7),
-            b"a tree could not be written: 7"
-        )
-    );
+    let message = WriteError::Out(7u8).to_string(rt.alloc());
+    let wanted = b"a tree could not be written: 7".as_slice();
+    assert!(rt; matches!(&message, Ok(message) if message.as_bytes() == wanted));
 }
 
 /// Upserts a file, removes a path and writes. The written tree has the files of that history.
@@ -71,25 +58,14 @@ fn edited_and_written<S: Find, E: Drop, F: FnMut(&Tree) -> Result<ObjectId, E> +
     }
 }
 
-/// Whether the tree written after an upsert of `a` and a removal of `b` is the tree of `a` alone.
-fn writes_a_alone(alloc: Global, editor: &mut Editor<Never>, a: &[BString], b: &[BString]) -> bool {
-    let out = |tree: &Tree| tree.compute_id(alloc, HashKind::Sha1);
-    match edited_and_written(editor, a, id(TEST), b, out) {
-        Ok(Some(written)) => written.id == id(A),
-        _ => false,
-    }
-}
-
-/// Whether only the file `a` remains if it is inserted next to the directory `b`, and `b` is removed.
-fn leaves_a(alloc: Global) -> bool {
-    let a = path_of(alloc, &["a"]);
-    let b = path_of(alloc, &["b"]);
-    let mut editor = Editor::new(Tree::empty(alloc), Never, HashKind::Sha1);
-    editor.try_upsert(&b, EntryKind::Tree, id(BAK)).is_ok()
-        && writes_a_alone(alloc, &mut editor, &a, &b)
-}
-
+/// Only the file `a` remains if it is inserted next to the directory `b`, and `b` is removed.
 #[test]
 fn writes_files_of_history(rt: HostRuntime) {
-    assert!(rt; leaves_a(rt.alloc()));
+    let alloc = rt.alloc();
+    let (a, b) = (path_of(alloc, &["a"]), path_of(alloc, &["b"]));
+    let mut editor = Editor::new(Tree::empty(alloc), Never, HashKind::Sha1);
+    assert!(rt; editor.try_upsert(&b, EntryKind::Tree, id(BAK)).is_ok());
+    let out = |tree: &Tree| tree.compute_id(alloc, HashKind::Sha1);
+    let written = edited_and_written(&mut editor, &a, id(TEST), &b, out);
+    assert!(rt; matches!(&written, Ok(Some(written)) if written.id == id(A)));
 }

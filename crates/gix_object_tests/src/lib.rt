@@ -6,11 +6,7 @@ mod converted;
 #[cfg(test)]
 mod editor;
 #[cfg(test)]
-mod listing;
-#[cfg(test)]
-mod ordinary_lists;
-#[cfg(test)]
 mod public_paths;
-#[cfg(test)]
-mod run_scripts;
 pub mod samples;
+#[cfg(test)]
+mod set_roots;
