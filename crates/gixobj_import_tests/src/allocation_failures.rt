@@ -1,7 +1,8 @@
 //! Imports of the three steps while an allocation fails, and then all of them by a new importer.
 
 use crate::samples::{
-    COMMITS, STEPS, are_first_commits, has_all, import, importer_of, outcome_by, try_steps_of,
+    COMMITS, STEPS, are_first_commits, has_all, import, importer_of, outcome_by, steps_of,
+    try_steps_of,
 };
 use gix_object::import::{ImportError, Imported, Importer, Step};
 use gix_object::tree::editor::{Error, WriteError};
@@ -20,17 +21,9 @@ fn is_for_memory(error: &ImportError) -> bool {
     }
 }
 
-/// Whether an importer that stopped rejects a later step. No allocation fails any more. If there was no
-/// memory for the list, nothing was done, and the importer accepts the step.
-fn rejects_more(alloc: Global, importer: &mut Importer<Memory>, done: &[Imported]) -> bool {
-    match outcome_by(alloc, importer, "A", &[]) {
-        Some(7) => true,
-        Some(0) => done.is_empty(),
-        _ => false,
-    }
-}
-
-/// Whether an import stopped only at an allocation failure, and a new importer imports all steps.
+/// Whether an import stopped only at an allocation failure, and a new importer imports all steps. No allocation
+/// fails any more: the importer that stopped rejects a later step. If there was no memory for the list, nothing
+/// was done, and it accepts the step.
 fn ends_at_first_commits(
     alloc: Global,
     importer: &mut Importer<Memory>,
@@ -38,9 +31,10 @@ fn ends_at_first_commits(
     done: &[Imported],
     error: &ImportError,
 ) -> bool {
+    let later = outcome_by(alloc, importer, "A", &[]);
     are_first_commits(done)
         && is_for_memory(error)
-        && rejects_more(alloc, importer, done)
+        && (later == Some(7) || later == Some(0) && done.is_empty())
         && has_all(alloc, importer.store_mut(), done)
         && import(&mut importer_of(alloc), steps).has(&COMMITS, 0)
 }
@@ -55,23 +49,13 @@ fn imports_or_ends_at_first_commits(alloc: Global, steps: &[Step]) -> bool {
     }
 }
 
-/// The three steps, built again if an allocation fails.
-fn steps_at_last(alloc: Global) -> Option<Vec<Step>> {
-    match try_steps_of(alloc, &STEPS) {
-        Ok(steps) => Some(steps),
-        Err(_) => try_steps_of(alloc, &STEPS).ok(),
-    }
-}
-
-/// Whether the three steps are imported, or stopped and then imported by a new importer.
-fn imports_plain_at_last(alloc: Global) -> bool {
-    match steps_at_last(alloc) {
-        Some(steps) => imports_or_ends_at_first_commits(alloc, &steps),
-        None => false,
-    }
-}
-
+/// The steps are built again if an allocation fails.
 #[test]
 fn imports_three_steps_whatever_allocation_fails(rt: HostRuntime) {
-    assert!(rt; imports_plain_at_last(rt.alloc()));
+    let alloc = rt.alloc();
+    let steps = match try_steps_of(alloc, &STEPS) {
+        Ok(steps) => steps,
+        Err(_) => steps_of(alloc, &STEPS),
+    };
+    assert!(rt; imports_or_ends_at_first_commits(alloc, &steps));
 }

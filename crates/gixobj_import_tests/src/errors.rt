@@ -1,8 +1,6 @@
 //! Each error of a step, and the steps after it.
 
-use crate::samples::{
-    COMMITS, Outcome, STEPS, import, import_rows, importer_of, imports_plain, outcome_by,
-};
+use crate::samples::{COMMITS, Outcome, STEPS, StepRow, import_rows, importer_of, outcome_by};
 use gix_object::encode;
 use gix_object::import::ImportError;
 use gix_object::tree::editor::{Error, WriteError};
@@ -11,24 +9,40 @@ use std::alloc::Global;
 
 const FILE: &[u8] = b"0101010101010101010101010101010101010101";
 
-/// Imports the three steps and one more by this author.
-fn import_with(alloc: Global, author: &'static str, rows: &'static [Row]) -> Outcome {
+/// Imports the three steps and one more.
+fn import_with(alloc: Global, step: StepRow) -> Outcome {
     let [first, second, third] = STEPS;
-    let steps = [first, second, third, (author, rows)];
-    import_rows(alloc, &mut importer_of(alloc), &steps)
-}
-
-/// Whether this step by `author` after the three, which are imported, fails with the error of this number.
-fn fails_in(alloc: Global, author: &'static str, rows: &'static [Row], error: u8) -> bool {
-    import_with(alloc, author, rows).has(&COMMITS, error)
+    import_rows(
+        alloc,
+        &mut importer_of(alloc),
+        &[first, second, third, step],
+    )
 }
 
 /// A file, and a write.
 const WITH_WRITE: &[Row] = &[Row::File(&["a"], FILE), Row::Write];
 
+/// A name with a zero byte.
+const WITH_ZERO: &[Row] = &[Row::File(&["a\0b"], FILE)];
+
+/// Steps after the three, which are imported, and the numbers of their errors.
+const ROWS: [(StepRow, u8); 5] = [
+    (("A", WITH_WRITE), 1),
+    (("A", WITH_ZERO), 3),
+    (("A>", &[]), 5),
+    (("<A", &[]), 5),
+    (("A\nB", &[]), 5),
+];
+
 #[test]
-fn rejects_write_in_step(rt: HostRuntime) {
-    assert!(rt; fails_in(rt.alloc(), "A", WITH_WRITE, 1));
+fn rejects_writes_names_and_authors_of_step(rt: HostRuntime) {
+    for &(step, error) in &ROWS {
+        let (author, _) = step;
+        assert!(rt;
+            import_with(rt.alloc(), step).has(&COMMITS, error),
+            "{error} by {author}"
+        );
+    }
 }
 
 #[test]
@@ -36,27 +50,7 @@ fn imports_steps_after_rejected_write(rt: HostRuntime) {
     let alloc = rt.alloc();
     let mut importer = importer_of(alloc);
     assert!(rt; outcome_by(alloc, &mut importer, "A", WITH_WRITE) == Some(1));
-    assert!(rt; imports_plain(alloc, &mut importer, &COMMITS, 0));
-}
-
-/// The number of an edit's error.
-fn number_of_edit(error: &Error) -> u8 {
-    match error {
-        Error::EmptyPathComponent => 1,
-        Error::SlashInPathComponent => 2,
-        Error::FindExistingObject(_) => 3,
-        Error::CannotRemoveNonLeaf { .. } => 4,
-        Error::MalformedTree => 5,
-        Error::OutOfMemory => 6,
-    }
-}
-
-/// The index of the edit that fails in a step after the three, and the number of its error.
-fn failed_edit(alloc: Global, rows: &'static [Row]) -> Option<(usize, u8)> {
-    match &import_with(alloc, "A", rows).error {
-        Some(ImportError::Edit { index, error }) => Some((*index, number_of_edit(error))),
-        _ => None,
-    }
+    assert!(rt; import_rows(alloc, &mut importer, &STEPS).has(&COMMITS, 0));
 }
 
 const FIRST: &[Row] = &[Row::File(&["a", "", "b"], FILE), Row::File(&["a"], FILE)];
@@ -70,38 +64,40 @@ const UNKNOWN: &[Row] = &[
     Row::File(&["sub", "b"], FILE),
 ];
 
-#[test]
-fn reports_index_of_failed_edit(rt: HostRuntime) {
-    let alloc = rt.alloc();
-    assert!(rt; failed_edit(alloc, FIRST) == Some((0, 1)));
-    assert!(rt; failed_edit(alloc, LEAF) == Some((1, 4)));
-    assert!(rt; failed_edit(alloc, UNKNOWN) == Some((2, 3)));
-}
-
-/// Whether the error of a step is that of the encoding of a tree with this name.
-fn rejects_name(error: &Option<ImportError>, name: &[u8]) -> bool {
+/// Names the error of a step: of an edit at its index, or of the encoding of a tree.
+fn error_name(error: &Option<ImportError>) -> &'static str {
     match error {
         Some(
-            ImportError::Write(
-                WriteError::Out(encode::Error::NullbyteInFilename { name: rejected }),
-            ),
-        ) => rejected.as_bytes() == name,
-        _ => false,
+            ImportError::Edit {
+                index: 0,
+                error: Error::EmptyPathComponent,
+            },
+        ) => "empty name in first",
+        Some(
+            ImportError::Edit {
+                index: 1,
+                error: Error::CannotRemoveNonLeaf { .. },
+            },
+        ) => "no leaf in second",
+        Some(
+            ImportError::Edit {
+                index: 2,
+                error: Error::FindExistingObject(_),
+            },
+        ) => "not found in third",
+        Some(ImportError::Write(WriteError::Out(encode::Error::NullbyteInFilename { name })))
+            if name.as_bytes() == b"a\0b".as_slice() => "zero byte in a name",
+        _ => "otherwise",
     }
 }
 
 #[test]
-fn rejects_name_with_zero_byte(rt: HostRuntime) {
-    let outcome = import_with(rt.alloc(), "A", &[Row::File(&["a\0b"], FILE)]);
-    assert!(rt; outcome.has(&COMMITS, 3));
-    assert!(rt; rejects_name(&outcome.error, b"a\0b"));
-}
-
-#[test]
-fn rejects_invalid_authors(rt: HostRuntime) {
-    for author in ["A>", "<A", "A\nB"] {
-        assert!(rt; fails_in(rt.alloc(), author, &[], 5), "{author}");
-    }
+fn reports_failed_edit_or_name(rt: HostRuntime) {
+    let alloc = rt.alloc();
+    assert!(rt; error_name(&import_with(alloc, ("A", FIRST)).error) == "empty name in first");
+    assert!(rt; error_name(&import_with(alloc, ("A", LEAF)).error) == "no leaf in second");
+    assert!(rt; error_name(&import_with(alloc, ("A", UNKNOWN)).error) == "not found in third");
+    assert!(rt; error_name(&import_with(alloc, ("A", WITH_ZERO)).error) == "zero byte in a name");
 }
 
 /// A failed importer rejects a step, also one that holds a write, and a list of steps.
@@ -111,10 +107,5 @@ fn rejects_steps_after_failure(rt: HostRuntime) {
     let mut importer = importer_of(alloc);
     assert!(rt; outcome_by(alloc, &mut importer, "A", &[Row::File(&[""], FILE)]) == Some(2));
     assert!(rt; outcome_by(alloc, &mut importer, "A", &[Row::Write]) == Some(7));
-    assert!(rt; imports_plain(alloc, &mut importer, &[], 7));
-}
-
-#[test]
-fn imports_no_steps(rt: HostRuntime) {
-    assert!(rt; import(&mut importer_of(rt.alloc()), &[]).has(&[], 0));
+    assert!(rt; import_rows(alloc, &mut importer, &STEPS).has(&[], 7));
 }

@@ -1,10 +1,8 @@
 //! Imports in which each call to keep a tree or a commit fails in turn.
 
-use crate::samples::{
-    COMMITS, STEPS, are_first_commits, has_all, import_rows, imports_plain, outcome_by,
-};
+use crate::samples::{COMMITS, STEPS, are_first_commits, has_all, import_rows, outcome_by};
 use gix_object::hash::Kind as HashKind;
-use gix_object::import::{ImportError, Imported, Importer};
+use gix_object::import::{ImportError, Importer};
 use gix_object::{KeepError, Memory};
 use gixobj_find_tests::failing::{Failing, OFFLINE};
 use std::alloc::Global;
@@ -32,35 +30,20 @@ fn has_counts(store: &Failing, counts: (u64, u64)) -> bool {
     (store.keeps(), store.commits()) == counts
 }
 
-/// Whether these calls were made, with none for a later step, and the store has the commits.
-fn keeps_only_done_steps(
-    alloc: Global,
-    importer: &mut Importer<Failing>,
-    done: &[Imported],
-    counts: (u64, u64),
-) -> bool {
-    has_counts(importer.store_mut(), counts)
-        && outcome_by(alloc, importer, "A", &[]) == Some(7)
-        && has_counts(importer.store_mut(), counts)
-        && has_all(alloc, importer.store_mut(), done)
-}
-
-/// Whether the import stopped at the error that the store returned.
-fn is_offline(error: &Option<ImportError>) -> bool {
-    match error {
-        Some(ImportError::NotKept(KeepError::Store(message))) => message.as_bytes() == OFFLINE,
-        _ => false,
-    }
-}
-
-/// Whether an import stops after `before` steps, and the importer rejects a later step.
+/// Whether an import stops after `before` steps, at the store's error, and these calls were made. The importer
+/// rejects a later step without a call, and the store has the commits.
 fn stops(alloc: Global, rejected: &'static [u64], before: usize, counts: (u64, u64)) -> bool {
     let mut importer = failing(alloc, rejected);
     let outcome = import_rows(alloc, &mut importer, &STEPS);
-    is_offline(&outcome.error)
+    let is_offline = matches!(&outcome.error,
+        Some(ImportError::NotKept(KeepError::Store(it))) if it.as_bytes() == OFFLINE);
+    is_offline
         && outcome.done.len() == before
         && are_first_commits(&outcome.done)
-        && keeps_only_done_steps(alloc, &mut importer, &outcome.done, counts)
+        && has_counts(importer.store_mut(), counts)
+        && outcome_by(alloc, &mut importer, "A", &[]) == Some(7)
+        && has_counts(importer.store_mut(), counts)
+        && has_all(alloc, importer.store_mut(), &outcome.done)
 }
 
 #[test]
@@ -77,6 +60,6 @@ fn stops_at_each_failed_keep(rt: HostRuntime) {
 fn imports_steps_if_no_keep_fails(rt: HostRuntime) {
     let alloc = rt.alloc();
     let mut importer = failing(alloc, &[8]);
-    assert!(rt; imports_plain(alloc, &mut importer, &COMMITS, 0));
+    assert!(rt; import_rows(alloc, &mut importer, &STEPS).has(&COMMITS, 0));
     assert!(rt; has_counts(importer.store_mut(), (7, 3)));
 }

@@ -2,7 +2,7 @@
 
 use gix_object::hash::{Kind as HashKind, ObjectId};
 use gix_object::import::{ImportError, Imported, Importer, Step, import_all};
-use gix_object::{Data, Find, Keep, KeepCommit, Kind, Memory, compute_hash};
+use gix_object::{Find, Keep, KeepCommit, Kind, Memory, compute_hash};
 use gix_object_tests::samples::{Row, id, step_by};
 use std::alloc::{AllocError, Global};
 
@@ -54,16 +54,17 @@ pub fn importer_of(alloc: Global) -> Importer<Memory> {
     Importer::new(alloc, Memory::new(alloc), HashKind::Sha1)
 }
 
-/// The number of an import error.
-pub fn number(error: &ImportError) -> u8 {
+/// The number of an import error. 0 if there is none.
+fn number(error: Option<&ImportError>) -> u8 {
     match error {
-        ImportError::WriteInStep => 1,
-        ImportError::Edit { .. } => 2,
-        ImportError::Write(_) => 3,
-        ImportError::NotKept(_) => 4,
-        ImportError::Commit(_) => 5,
-        ImportError::OutOfMemory => 6,
-        ImportError::Failed => 7,
+        None => 0,
+        Some(ImportError::WriteInStep) => 1,
+        Some(ImportError::Edit { .. }) => 2,
+        Some(ImportError::Write(_)) => 3,
+        Some(ImportError::NotKept(_)) => 4,
+        Some(ImportError::Commit(_)) => 5,
+        Some(ImportError::OutOfMemory) => 6,
+        Some(ImportError::Failed) => 7,
     }
 }
 
@@ -75,17 +76,9 @@ pub struct Outcome {
 }
 
 impl Outcome {
-    /// The number of the error. 0 if all steps are imported.
-    pub fn number(&self) -> u8 {
-        match &self.error {
-            Some(error) => number(error),
-            None => 0,
-        }
-    }
-
     /// Whether the steps are imported as these commits, up to an error with this number.
     pub fn has(&self, commits: &[&str], error: u8) -> bool {
-        are_commits(&self.done, commits) && self.number() == error
+        are_commits(&self.done, commits) && number(self.error.as_ref()) == error
     }
 }
 
@@ -109,16 +102,6 @@ pub fn import_rows<S: Keep + KeepCommit>(
     import(importer, &steps_of(alloc, rows))
 }
 
-/// Whether the three steps are imported as these commits, up to an error with this number.
-pub fn imports_plain<S: Keep + KeepCommit>(
-    alloc: Global,
-    importer: &mut Importer<S>,
-    commits: &[&str],
-    error: u8,
-) -> bool {
-    import_rows(alloc, importer, &STEPS).has(commits, error)
-}
-
 /// The number of the error of a step of these rows, or 0 if it is imported. `None` if memory runs out.
 pub fn outcome_by<S: Keep + KeepCommit>(
     alloc: Global,
@@ -127,28 +110,19 @@ pub fn outcome_by<S: Keep + KeepCommit>(
     rows: &[Row],
 ) -> Option<u8> {
     let step = step_by(alloc, author, rows).ok()?;
-    match importer.step(&step) {
-        Ok(_) => Some(0),
-        Err(error) => Some(number(&error)),
-    }
-}
-
-/// The size of a commit with this id. `None` for any other object.
-fn size_of_commit(found: &Data<'_>, id: ObjectId) -> Option<usize> {
-    if found.kind == Kind::Commit
-        && compute_hash(found.object_hash, found.kind, found.bytes) == id
-    {
-        Some(found.bytes.len())
-    } else {
-        None
-    }
+    let error = importer.step(&step).err();
+    Some(number(error.as_ref()))
 }
 
 /// The size of the commit that the store has under its id. `None` also if memory runs out.
 pub fn kept_commit<S: Find>(alloc: Global, store: &S, id: ObjectId) -> Option<usize> {
     let mut buffer = Vec::new(alloc);
     match store.try_find(id.as_oid(), &mut buffer) {
-        Ok(Some(found)) => size_of_commit(&found, id),
+        Ok(Some(found))
+            if found.kind == Kind::Commit
+                && compute_hash(found.object_hash, found.kind, found.bytes) == id => {
+            Some(found.bytes.len())
+        }
         _ => None,
     }
 }

@@ -6,7 +6,7 @@ use crate::samples::{
 };
 use gix_object::Memory;
 use gix_object::hash::Kind as HashKind;
-use gix_object::import::{Imported, Importer};
+use gix_object::import::Importer;
 use gix_object_tests::samples::{Row, id};
 use std::alloc::Global;
 
@@ -60,44 +60,35 @@ const STEPS_256: [StepRow; 3] = [
     ("A", &[Row::File(&["bak", "test.txt"], OLD)]),
 ];
 
-/// Whether the trees are these, with these numbers of emitted trees.
-fn are_trees(imported: &[Imported], rows: &[(&str, usize, usize)]) -> bool {
-    for (it, (tree, count, _)) in imported.iter().zip(rows) {
-        if it.written.id != id(tree.as_bytes()) || it.written.trees.len() != *count {
-            return false;
-        }
-    }
-    true
-}
-
-/// Whether all steps are imported as these trees and commits.
-fn is_imported(outcome: &Outcome, rows: &[(&str, usize, usize)], commits: &[&str]) -> bool {
-    are_trees(&outcome.done, rows) && outcome.has(commits, 0)
-}
-
-/// Whether a store has these commits with these sizes.
-fn has_commits(
+/// Whether all steps are imported as these trees and commits, and the store has the commits.
+fn is_imported(
     alloc: Global,
     store: &Memory,
+    outcome: &Outcome,
     rows: &[(&str, usize, usize)],
     commits: &[&str],
 ) -> bool {
-    for (hex, (_, _, size)) in commits.iter().zip(rows) {
-        if kept_commit(alloc, store, id(hex.as_bytes())) != Some(*size) {
+    for (it, &(tree, count, size)) in outcome.done.iter().zip(rows) {
+        if it.written.id != id(tree.as_bytes())
+            || it.written.trees.len() != count
+            || kept_commit(alloc, store, it.commit) != Some(size)
+        {
             return false;
         }
     }
-    true
+    outcome.has(commits, 0)
 }
 
+/// The rejected ones change nothing, and an import of no steps does nothing.
 #[test]
 fn imports_three_steps_and_rejects_two(rt: HostRuntime) {
     let alloc = rt.alloc();
     let mut importer = importer_of(alloc);
-    assert!(rt; is_imported(&import_rows(alloc, &mut importer, &STEPS), &SHA1, &COMMITS));
+    assert!(rt; import_rows(alloc, &mut importer, &[]).has(&[], 0));
+    let outcome = import_rows(alloc, &mut importer, &STEPS);
     assert!(rt; outcome_by(alloc, &mut importer, "A>", &[]) == Some(5));
     assert!(rt; outcome_by(alloc, &mut importer, "A", &[]) == Some(7));
-    assert!(rt; has_commits(alloc, importer.store_mut(), &SHA1, &COMMITS));
+    assert!(rt; is_imported(alloc, importer.store_mut(), &outcome, &SHA1, &COMMITS));
 }
 
 #[test]
@@ -105,6 +96,5 @@ fn imports_three_steps_by_sha256(rt: HostRuntime) {
     let alloc = rt.alloc();
     let mut importer = Importer::new(alloc, Memory::new(alloc), HashKind::Sha256);
     let outcome = import_rows(alloc, &mut importer, &STEPS_256);
-    assert!(rt; is_imported(&outcome, &SHA256, &COMMITS_256));
-    assert!(rt; has_commits(alloc, importer.store_mut(), &SHA256, &COMMITS_256));
+    assert!(rt; is_imported(alloc, importer.store_mut(), &outcome, &SHA256, &COMMITS_256));
 }
