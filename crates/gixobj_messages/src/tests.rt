@@ -3,7 +3,7 @@
 use crate::assembler::{MessageError, Trailer, message_of, message_with_description};
 use crate::rewriter::with_renamed_trailers;
 use bstr::BString;
-use std::alloc::{AllocError, Global};
+use std::alloc::Global;
 
 /// The output of `git interpret-trailers --trailer 'Acked-by: A <a@x>' --trailer 'Ticket: 12'` for the title.
 const ASSEMBLED: &[u8] = b"Add a reader\n\nAcked-by: A <a@x>\nTicket: 12\n";
@@ -30,87 +30,70 @@ const REVIEWED: &[u8] = b"Add a reader\n\n\
     Ticket: 12 and 13\n\
     Reviewed-by: C <c@x>\n";
 
-/// Makes a trailer.
-fn trailer(alloc: Global, token: &[u8], value: &[u8]) -> Result<Trailer, AllocError> {
-    Ok(Trailer {
-        token: BString::from_slice(alloc, token)?,
-        value: BString::from_slice(alloc, value)?,
-    })
+/// Copies bytes. Empty if memory runs out.
+fn string_of(alloc: Global, bytes: &[u8]) -> BString {
+    BString::from_slice(alloc, bytes).unwrap_or(BString::new(Vec::new(alloc)))
 }
 
-/// The message of a title, a trailer, and a ticket.
-fn acked(alloc: Global, title: &[u8], token: &[u8], value: &[u8]) -> Result<Vec<u8>, MessageError> {
-    let trailers = [
-        trailer(alloc, token, value)?,
-        trailer(alloc, b"Ticket", b"12")?,
-    ];
-    message_of(alloc, title, &trailers)
+/// A trailer, and a ticket.
+fn trailers_of(alloc: Global, token: &[u8], value: &[u8]) -> [Trailer; 2] {
+    [
+        Trailer {
+            token: string_of(alloc, token),
+            value: string_of(alloc, value),
+        },
+        Trailer {
+            token: string_of(alloc, b"Ticket"),
+            value: string_of(alloc, b"12"),
+        },
+    ]
 }
 
-/// Whether these are the bytes of the message.
-fn is_message(message: Result<Vec<u8>, MessageError>, bytes: &[u8]) -> bool {
+/// Names a result, by these bytes of a message.
+fn outcome(message: &Result<Vec<u8>, MessageError>, bytes: &[u8]) -> &'static str {
     match message {
-        Ok(message) => message.as_slice() == bytes,
-        Err(_) => false,
+        Ok(message) if message.as_slice() == bytes => "the message",
+        Err(MessageError::Title) => "title",
+        Err(MessageError::Trailer { index: 0 }) => "first trailer",
+        _ => "otherwise",
     }
 }
 
-/// Whether the title is rejected.
-fn is_title_error(message: Result<Vec<u8>, MessageError>) -> bool {
-    matches!(message, Err(MessageError::Title))
-}
-
-/// Whether the first trailer is rejected.
-fn is_first_trailer_error(message: Result<Vec<u8>, MessageError>) -> bool {
-    matches!(message, Err(MessageError::Trailer { index: 0 }))
-}
+/// Titles, tokens and values of the first trailer, and the results, with a description or without.
+const ROWS: [(&[u8], &[u8], &[u8], &str); 4] = [
+    (b"Add a reader", b"Acked-by", b"A <a@x>", "the message"),
+    (b"Add\nit", b"Acked-by", b"A <a@x>", "title"),
+    (b"Add a reader", b"Acked by", b"A <a@x>", "first trailer"),
+    (b"Add a reader", b"Acked-by", b"A <a@x> ", "first trailer"),
+];
 
 #[test]
 fn assembles_message_of_one_line_parts(rt: HostRuntime) {
     let alloc = rt.alloc();
-    assert!(rt;
-        is_message(
-            acked(alloc, b"Add a reader", b"Acked-by", b"A <a@x>"),
-            ASSEMBLED
-        )
-    );
-    assert!(rt; is_title_error(acked(alloc, b"Add\nit", b"Acked-by", b"A <a@x>")));
-    assert!(rt; is_first_trailer_error(acked(alloc, b"Add a reader", b"Acked by", b"A <a@x>")));
-    assert!(rt; is_first_trailer_error(acked(alloc, b"Add a reader", b"Acked-by", b"A <a@x> ")));
-}
-
-/// The message of a title, a description, and two trailers.
-fn described(alloc: Global, title: &[u8], token: &[u8]) -> Result<Vec<u8>, MessageError> {
-    let trailers = [
-        trailer(alloc, token, b"A <a@x>")?,
-        trailer(alloc, b"Ticket", b"12")?,
-    ];
-    message_with_description(alloc, title, DESCRIPTION, &trailers)
-}
-
-#[test]
-fn assembles_message_with_description(rt: HostRuntime) {
-    let alloc = rt.alloc();
-    assert!(rt; is_message(described(alloc, b"Add a reader", b"Acked-by"), DESCRIBED));
-    assert!(rt; is_title_error(described(alloc, b"Add\nit", b"Acked-by")));
-    assert!(rt; is_first_trailer_error(described(alloc, b"Add a reader", b"Acked by")));
+    for &(title, token, value, wanted) in &ROWS {
+        let trailers = trailers_of(alloc, token, value);
+        let message = message_of(alloc, title, &trailers);
+        assert!(rt; outcome(&message, ASSEMBLED) == wanted, "{wanted}");
+        let message = message_with_description(alloc, title, DESCRIPTION, &trailers);
+        assert!(rt;
+            outcome(&message, DESCRIBED) == wanted,
+            "{wanted} with a description"
+        );
+    }
 }
 
 /// The message that `git interpret-trailers` prints for itself, without trailers.
 #[test]
 fn ends_description_without_trailers(rt: HostRuntime) {
     let message = message_with_description(rt.alloc(), b"Add a reader", b"It reads.", &[]);
-    assert!(rt; is_message(message, b"Add a reader\n\nIt reads.\n"));
-}
-
-/// The message with another token for `acked-by`.
-fn with_token(alloc: Global, to: &[u8]) -> Result<Vec<u8>, MessageError> {
-    with_renamed_trailers(alloc, ACKED, b"acked-by", to)
+    assert!(rt; outcome(&message, b"Add a reader\n\nIt reads.\n") == "the message");
 }
 
 #[test]
 fn renames_trailers_and_unfolds_their_values(rt: HostRuntime) {
     let alloc = rt.alloc();
-    assert!(rt; is_message(with_token(alloc, b"Reviewed-by"), REVIEWED));
-    assert!(rt; is_first_trailer_error(with_token(alloc, b"Reviewed by")));
+    let renamed = with_renamed_trailers(alloc, ACKED, b"acked-by", b"Reviewed-by");
+    assert!(rt; outcome(&renamed, REVIEWED) == "the message");
+    let rejected = with_renamed_trailers(alloc, ACKED, b"acked-by", b"Reviewed by");
+    assert!(rt; outcome(&rejected, REVIEWED) == "first trailer");
 }
