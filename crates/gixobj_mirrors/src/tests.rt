@@ -6,7 +6,7 @@ use bstr::BString;
 use gix_object::hash::{Kind, ObjectId};
 use gix_object::tree::{Entry, EntryKind};
 use gix_object::{Memory, Tree};
-use std::alloc::{AllocError, Global};
+use std::alloc::Global;
 
 const FILE: &[u8] = b"587be6b4c3f93f93c489c0111bba5596147a26cb";
 
@@ -23,45 +23,45 @@ fn id(hex: &[u8]) -> ObjectId {
     ObjectId::from_hex(hex).unwrap_or(ObjectId::null(Kind::Sha1))
 }
 
-/// The entry of a kind, name and id.
-fn entry(alloc: Global, kind: EntryKind, name: &[u8], hex: &[u8]) -> Result<Entry, AllocError> {
-    Ok(Entry {
-        mode: kind.into(),
-        filename: BString::from_slice(alloc, name)?,
-        oid: id(hex),
-    })
-}
+/// An entry of a tree: kind, name and id.
+type Row = (EntryKind, &'static [u8], &'static [u8]);
 
-/// The directory `deep`.
-fn deep(alloc: Global) -> Result<Tree, AllocError> {
+const DEEP_TREE: [Row; 1] = [(EntryKind::Blob, b"x", FILE)];
+
+const PROGRAM: Row = (EntryKind::BlobExecutable, b"run.sh", RUN);
+
+const ROOT_TREE: [Row; 2] = [(EntryKind::Tree, b"deep", DEEP), PROGRAM];
+
+/// A root whose directory is the empty tree.
+const NOT_CANONICAL: [Row; 2] = [
+    (
+        EntryKind::Tree,
+        b"deep",
+        b"4b825dc642cb6eb9a060e54bf8d69288fbee4904",
+    ),
+    PROGRAM,
+];
+
+/// Writes the tree of these entries. The null id if memory runs out.
+fn written(alloc: Global, store: &mut Memory, rows: &[Row]) -> ObjectId {
     let mut entries = Vec::new(alloc);
-    entries.push(entry(alloc, EntryKind::Blob, b"x", FILE)?)?;
-    Ok(Tree { entries })
-}
-
-/// A root with a directory of this id and the program.
-fn root(alloc: Global, directory: &[u8]) -> Result<Tree, AllocError> {
-    let mut entries = Vec::new(alloc);
-    entries.push(entry(alloc, EntryKind::Tree, b"deep", directory)?)?;
-    entries.push(entry(alloc, EntryKind::BlobExecutable, b"run.sh", RUN)?)?;
-    Ok(Tree { entries })
-}
-
-/// Writes a tree. The null id if memory runs out.
-fn written(store: &mut Memory, tree: Result<Tree, AllocError>) -> ObjectId {
-    let null = ObjectId::null(Kind::Sha1);
-    match tree {
-        Ok(tree) => store.write(Kind::Sha1, &tree).unwrap_or(null),
-        Err(_) => null,
+    for &(kind, name, hex) in rows {
+        let _ = entries.push(Entry {
+            mode: kind.into(),
+            filename: BString::from_slice(alloc, name).unwrap_or(BString::new(Vec::new(alloc))),
+            oid: id(hex),
+        });
     }
+    let written = store.write(Kind::Sha1, &Tree { entries });
+    written.unwrap_or(ObjectId::null(Kind::Sha1))
 }
 
 /// A store of both trees, and the id of the root.
 fn full_store(alloc: Global) -> (Memory, ObjectId) {
     let mut store = Memory::new(alloc);
-    written(&mut store, deep(alloc));
-    let id = written(&mut store, root(alloc, DEEP));
-    (store, id)
+    let _ = written(alloc, &mut store, &DEEP_TREE);
+    let root = written(alloc, &mut store, &ROOT_TREE);
+    (store, root)
 }
 
 #[test]
@@ -79,11 +79,8 @@ fn rejects_roots_that_are_not_canonical(rt: HostRuntime) {
     let alloc = rt.alloc();
     let (store, first) = full_store(alloc);
     let mut other = Memory::new(alloc);
-    let second = written(&mut other, root(alloc, DEEP));
-    let third = written(
-        &mut other,
-        root(alloc, b"4b825dc642cb6eb9a060e54bf8d69288fbee4904"),
-    );
+    let second = written(alloc, &mut other, &ROOT_TREE);
+    let third = written(alloc, &mut other, &NOT_CANONICAL);
     assert!(rt; !is_canonical(alloc, &store, first, 1).unwrap_or(true));
     assert!(rt; !is_canonical(alloc, &other, third, 2).unwrap_or(true));
     let copy = is_mirrored(alloc, &store, &other, first, second, 2);
