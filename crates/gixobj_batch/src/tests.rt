@@ -8,58 +8,36 @@ use gix_object::hash::ObjectId;
 use std::alloc::Global;
 
 /// The id of recorded hex.
-fn id_of(hex: &[u8]) -> ObjectId {
-    match ObjectId::from_hex(hex) {
-        Some(id) => id,
-        None => ObjectId::default(),
+fn id(hex: &[u8]) -> ObjectId {
+    ObjectId::from_hex(hex).unwrap_or_default()
+}
+
+/// Whether an error follows these lines. `None` if the command prints others.
+fn fails_after(alloc: Global, command: Command, input: &[u8], lines: &[u8]) -> Option<bool> {
+    match &report_of(alloc, command, input) {
+        Ok(report) if report.lines.as_slice() == lines => Some(report.fault.is_some()),
+        _ => None,
     }
-}
-
-/// Whether a command prints these lines, and then no error.
-fn prints(alloc: Global, command: Command, input: &[u8], expected: &[u8]) -> bool {
-    match report_of(alloc, command, input) {
-        Ok(report) => report.lines.as_slice() == expected && report.fault.is_none(),
-        Err(_) => false,
-    }
-}
-
-#[test]
-fn prints_what_git_prints_with_sha1(rt: HostRuntime) {
-    let (tip, first) = (id_of(SHA1_TIP), id_of(SHA1_FIRST));
-    assert!(rt; prints(rt.alloc(), Command::Log(tip), SHA1_BATCH, SHA1_LOG));
-    assert!(rt; prints(rt.alloc(), Command::List(tip), SHA1_BATCH, SHA1_LIST));
-    assert!(rt; prints(rt.alloc(), Command::Diff(first, tip), SHA1_BATCH, SHA1_DIFF));
-}
-
-#[test]
-fn prints_what_git_prints_with_sha256(rt: HostRuntime) {
-    let (tip, first) = (id_of(SHA256_TIP), id_of(SHA256_FIRST));
-    assert!(rt; prints(rt.alloc(), Command::Log(tip), SHA256_BATCH, SHA256_LOG));
-    assert!(rt; prints(rt.alloc(), Command::List(tip), SHA256_BATCH, SHA256_LIST));
-    assert!(rt;
-        prints(
-            rt.alloc(),
-            Command::Diff(first, tip),
-            SHA256_BATCH,
-            SHA256_DIFF
-        )
-    );
 }
 
 const CLEAN: &[u8] = b"checked 26 objects: 0 faulty, 0 missing\n";
 
+/// No object of git has a fault.
 #[test]
-fn finds_no_fault_in_objects_of_git(rt: HostRuntime) {
-    assert!(rt; prints(rt.alloc(), Command::Check, SHA1_BATCH, CLEAN));
-    assert!(rt; prints(rt.alloc(), Command::Check, SHA256_BATCH, CLEAN));
-}
-
-/// Whether a command prints these lines, and then an error.
-fn prints_faults(alloc: Global, command: Command, input: &[u8], expected: &[u8]) -> bool {
-    match report_of(alloc, command, input) {
-        Ok(report) => report.lines.as_slice() == expected && report.fault.is_some(),
-        Err(_) => false,
-    }
+fn prints_what_git_prints_by_each_hash(rt: HostRuntime) {
+    let alloc = rt.alloc();
+    let (tip, first) = (id(SHA1_TIP), id(SHA1_FIRST));
+    let diff = Command::Diff(first, tip);
+    assert!(rt; fails_after(alloc, Command::Log(tip), SHA1_BATCH, SHA1_LOG) == Some(false));
+    assert!(rt; fails_after(alloc, Command::List(tip), SHA1_BATCH, SHA1_LIST) == Some(false));
+    assert!(rt; fails_after(alloc, diff, SHA1_BATCH, SHA1_DIFF) == Some(false));
+    assert!(rt; fails_after(alloc, Command::Check, SHA1_BATCH, CLEAN) == Some(false));
+    let (tip, first) = (id(SHA256_TIP), id(SHA256_FIRST));
+    let diff = Command::Diff(first, tip);
+    assert!(rt; fails_after(alloc, Command::Log(tip), SHA256_BATCH, SHA256_LOG) == Some(false));
+    assert!(rt; fails_after(alloc, Command::List(tip), SHA256_BATCH, SHA256_LIST) == Some(false));
+    assert!(rt; fails_after(alloc, diff, SHA256_BATCH, SHA256_DIFF) == Some(false));
+    assert!(rt; fails_after(alloc, Command::Check, SHA256_BATCH, CLEAN) == Some(false));
 }
 
 /// A blob with another id, a missing object, a malformed tree, and a tree whose mode begins with a zero.
@@ -77,15 +55,12 @@ const FAULTS: &[u8] =
     checked 3 objects: 3 faulty, 1 missing\n";
 
 #[test]
-fn lists_faults_of_objects(rt: HostRuntime) {
-    assert!(rt; prints_faults(rt.alloc(), Command::Check, FAULTY, FAULTS));
-}
-
-#[test]
-fn stops_at_first_commit_that_is_missing(rt: HostRuntime) {
+fn lists_faults_and_stops_at_missing_commit(rt: HostRuntime) {
+    let alloc = rt.alloc();
+    assert!(rt; fails_after(alloc, Command::Check, FAULTY, FAULTS) == Some(true));
     let alone = b"2b09c4737e7ae776810443d28ff15aaacfd1bfbf missing\n".as_slice();
-    let id = id_of(b"2b09c4737e7ae776810443d28ff15aaacfd1bfbf");
-    assert!(rt; prints_faults(rt.alloc(), Command::Log(id), alone, b""));
+    let log = Command::Log(id(b"2b09c4737e7ae776810443d28ff15aaacfd1bfbf"));
+    assert!(rt; fails_after(alloc, log, alone, b"") == Some(true));
 }
 
 /// Whether a command fails with this message.
