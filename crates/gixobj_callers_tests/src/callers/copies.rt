@@ -47,7 +47,12 @@ fn copies_tree_and_rejects_truncated_one(rt: HostRuntime) {
 fn takes_over_blob_only_under_its_id(rt: HostRuntime) {
     let alloc = rt.alloc();
     let hello = id(HELLO_ID);
-    assert!(rt; is_copy(&taken_over(alloc, b"blob 6\0hello\n", hello.as_oid()), HELLO));
+    assert!(rt;
+        is_copy(
+            &taken_over(alloc, b"blob 6\0hello\n", hello.as_oid()),
+            HELLO
+        )
+    );
     let other = taken_over(alloc, b"blob 5\0hello", hello.as_oid());
     assert!(rt; matches!(&other, Err(TakeError::Verify(_))));
 }
