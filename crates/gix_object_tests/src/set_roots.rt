@@ -79,7 +79,7 @@ fn edits_and_writes(replies: &[EditReply<encode::Error>], hex: &[u8], count: usi
     }
 }
 
-/// Whether the first root is set and the second refused, and both directories are written.
+/// Whether the first root is set and the second rejected, and both directories are written.
 fn are_expected(replies: &[Reply<encode::Error>]) -> bool {
     match replies {
         [

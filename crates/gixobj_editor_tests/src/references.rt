@@ -4,7 +4,8 @@
 use crate::entries::{Got, gets_all, gets_all_by};
 use crate::faulty::{Faulty, MESSAGE, TOO_LARGE, UNREADABLE};
 use crate::samples::{
-    FILE, TREE_OF_B, cursor_of, is_placed, path_of, removed, stored, tree_of, upserted_by, writes,
+    FILE, TREE_OF_B, cursor_of, inserts_directory, path_of, removed, stored, tree_of, upserted_by,
+    writes,
 };
 use gixobj_base::hash::{Kind as HashKind, ObjectId};
 use gixobj_base::tree::EntryKind;
@@ -49,7 +50,7 @@ fn with_open_directory(alloc: Global) -> Editor<Faulty> {
     let id = stored_directories(alloc, &mut objects);
     let store = Faulty { alloc, objects };
     let mut editor = Editor::new(Tree::empty(alloc), store, HashKind::Sha1);
-    let _ = is_placed(alloc, &mut editor, b"d", id.unwrap_or(UNKNOWN))
+    let _ = inserts_directory(alloc, &mut editor, b"d", id.unwrap_or(UNKNOWN))
         && cursor_of(alloc, &mut editor, b"d").is_ok();
     editor
 }

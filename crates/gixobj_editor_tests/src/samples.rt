@@ -126,7 +126,7 @@ pub(crate) fn upserted<S: Find>(alloc: Global, editor: &mut Editor<S>, path: &[u
 }
 
 /// Inserts a directory by its id, and returns whether that succeeds.
-pub(crate) fn is_placed<S: Find>(
+pub(crate) fn inserts_directory<S: Find>(
     alloc: Global,
     editor: &mut Editor<S>,
     path: &[u8],

@@ -3,8 +3,8 @@
 
 use crate::entries::{Got, gets_all};
 use crate::samples::{
-    FILE, NULL, TREE_OF_B, are_upserted, cursor_of, empty_editor, is_placed, removed, upserted,
-    writes,
+    FILE, NULL, TREE_OF_B, are_upserted, cursor_of, empty_editor, inserts_directory, removed,
+    upserted, writes,
 };
 use gixobj_base::hash::{Kind as HashKind, ObjectId};
 use gixobj_base::tree::EntryKind;
@@ -166,7 +166,7 @@ fn save_in_both(alloc: Global, editor: &mut Editor<&Memory>) -> bool {
 /// same.
 fn copies_directories(alloc: Global, store: &Memory, id: ObjectId) -> bool {
     let mut editor = Editor::new(Tree::empty(alloc), store, HashKind::Sha1);
-    is_placed(alloc, &mut editor, b"a", id)
+    inserts_directory(alloc, &mut editor, b"a", id)
         && are_upserted(alloc, &mut editor, &[b"a c", b"d e"])
         && removed(alloc, &mut editor, b"a c") == 0
         && cursor_of(alloc, &mut editor, b"a").is_ok()

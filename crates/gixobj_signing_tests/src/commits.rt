@@ -257,13 +257,13 @@ const NO_LINE_PAYLOAD: &[u8] = b"tree 4b825dc642cb6eb9a060e54bf8d69288fbee4904\n
     gpgsig B\n\
     no line";
 
-/// The commit `SIGNED`, cut within its committer.
-const CUT_COMMITTER: &[u8] = b"tree 4b825dc642cb6eb9a060e54bf8d69288fbee4904\n\
+/// The commit `SIGNED`, truncated within its committer.
+const TRUNCATED_COMMITTER: &[u8] = b"tree 4b825dc642cb6eb9a060e54bf8d69288fbee4904\n\
     author A <a@b> 0 +0000\n\
     committer A <a@b> 0 +0000";
 
-/// The commit `SIGNED`, cut within its signature.
-const CUT_SIGNATURE: &[u8] = b"tree 4b825dc642cb6eb9a060e54bf8d69288fbee4904\n\
+/// The commit `SIGNED`, truncated within its signature.
+const TRUNCATED_SIGNATURE: &[u8] = b"tree 4b825dc642cb6eb9a060e54bf8d69288fbee4904\n\
     author A <a@b> 0 +0000\n\
     committer A <a@b> 0 +0000\n\
     gpgsig A\n\
@@ -287,8 +287,8 @@ const FOUND: &[(&[u8], Kind, Found)] = &[
     (AGAIN, Sha1, Found::Signature(b"A\rB\nC\n", NONE)),
     (SHA256_AGAIN, Sha256, Found::Signature(b"A", SHA256_NONE)),
     (NO_LINE, Sha1, Found::Signature(b"A", NO_LINE_PAYLOAD)),
-    (CUT_COMMITTER, Sha1, Found::Malformed),
-    (CUT_SIGNATURE, Sha1, Found::Malformed),
+    (TRUNCATED_COMMITTER, Sha1, Found::Malformed),
+    (TRUNCATED_SIGNATURE, Sha1, Found::Malformed),
     (SIGNED, Sha256, Found::Malformed),
     (b"gpgsig A\n", Sha1, Found::Malformed),
 ];
