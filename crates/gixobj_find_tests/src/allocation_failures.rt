@@ -10,11 +10,11 @@ use gixobj_mode::EntryKind;
 use std::alloc::Global;
 
 /// The two lookups of each kind of object.
-const LOOKUPS: &[(Kind, [Lookup; 2])] = &[
-    (Kind::Tree, [Lookup::Tree, Lookup::TreeReader]),
-    (Kind::Blob, [Lookup::Blob, Lookup::Any]),
-    (Kind::Commit, [Lookup::Commit, Lookup::CommitReader]),
-    (Kind::Tag, [Lookup::Tag, Lookup::TagReader]),
+const LOOKUPS: &[(Kind, Lookup, Lookup)] = &[
+    (Kind::Tree, Lookup::Tree, Lookup::TreeReader),
+    (Kind::Blob, Lookup::Blob, Lookup::Any),
+    (Kind::Commit, Lookup::Commit, Lookup::CommitReader),
+    (Kind::Tag, Lookup::Tag, Lookup::TagReader),
 ];
 
 /// Makes these lookups of an object of this kind, each again after a failed allocation, and returns whether
@@ -35,10 +35,10 @@ fn finds(alloc: Global, kind: Kind, lookups: [Lookup; 2]) -> Option<bool> {
 
 #[test]
 fn finds_objects_whatever_allocation_fails(rt: HostRuntime) {
-    for &(kind, lookups) in LOOKUPS {
-        let mut is_found = finds(rt.alloc(), kind, lookups);
+    for &(kind, one, other) in LOOKUPS {
+        let mut is_found = finds(rt.alloc(), kind, [one, other]);
         if is_found.is_none() {
-            is_found = finds(rt.alloc(), kind, lookups);
+            is_found = finds(rt.alloc(), kind, [one, other]);
         }
         assert!(rt; is_found == Some(true), "{kind:?}");
     }

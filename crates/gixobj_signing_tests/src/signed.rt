@@ -26,6 +26,19 @@ fn long_commit(alloc: Global, headers: &str) -> Result<String, AllocError> {
     format!(in alloc; "{tree}{parents}{actors}{lines}{headers}\nhi\n")
 }
 
+/// Returns the row of a commit that is signed by one call.
+fn row_of<'a>(encoding: &'a [u8], signed: &'a [u8]) -> Row<'a> {
+    let call = Some((encoding, SIGNS));
+    let outcome = Outcome::Bytes(signed);
+    Row {
+        encoding,
+        hash: Sha1,
+        key: b"K",
+        call,
+        outcome,
+    }
+}
+
 /// Returns whether a commit of many parents and headers is signed, and written in `len` bytes, with the
 /// signature before its message.
 fn is_long_commit_signed_in(alloc: Global, len: usize) -> bool {
@@ -34,13 +47,7 @@ fn is_long_commit_signed_in(alloc: Global, len: usize) -> bool {
         &long_commit(alloc, "gpgsig A\n B\n"),
     ) {
         (Ok(commit), Ok(signed)) => {
-            let row = Row {
-                encoding: commit.as_bytes(),
-                hash: Sha1,
-                key: b"K",
-                call: Some((commit.as_bytes(), SIGNS)),
-                outcome: Outcome::Bytes(signed.as_bytes()),
-            };
+            let row = row_of(commit.as_bytes(), signed.as_bytes());
             signed.len() == len && of_commit(alloc, &row, Form::Decoded) == Some(true)
         }
         _ => false,
