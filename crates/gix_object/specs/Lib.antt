@@ -47,7 +47,7 @@ pub use Rattle.gixobj_fields.specs.HeaderFormat
 pub use Rattle.gixobj_fields.specs.Iterators as FieldReaders
 pub use Rattle.gixobj_fields.specs.Runs
 pub use Rattle.gixobj_fields.specs.StreamHash
-pub use Rattle.gixobj_fields.specs.Streams
+pub use Rattle.gixobj_streams.specs.Streams
 pub use Rattle.gixobj_fields.specs.Writing
 pub use Rattle.gixobj_fields.specs.declared as fields
 pub use Rattle.gixobj_files.specs.Bases

@@ -7,7 +7,7 @@
 //! - `gixobj edit [sha256]` runs a script of edits on an empty tree, and reports the outcome of each.
 #![tactic(auto)]
 
-use gixobj_fields::streams::ToWrite;
+use gixobj_streams::streams::ToWrite;
 use gixobj_script::engine::engine;
 use gixobj_show::arguments::process_arguments;
 use gixobj_show::engine::report_to;

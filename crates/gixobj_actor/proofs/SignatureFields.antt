@@ -2,9 +2,9 @@
 use Rattle.std.proofs.Common.{ℕ, List, [], ◌∷◌, ◌++◌, Result, Ok, Err, refl}
 use Rattle.std.specs.Prelude.{IfErr}
 use Rattle.bstr.specs.Owned.{bstring_bytes}
-use Rattle.gixobj_fields.proofs.Appends.{appends_prefix_after_byte}
+use Rattle.gixobj_streams.proofs.Appends.{appends_prefix_after_byte}
 use Rattle.gixobj_fields.specs.HeaderFormat.{encode_field}
-use Rattle.gixobj_fields.specs.Streams.{AppendsAll, AppendsPrefix, SinkView}
+use Rattle.gixobj_streams.specs.Streams.{AppendsAll, AppendsPrefix, SinkView}
 use Rattle.gixobj_fields.specs.Writing.{IsWritingError, LacksRoom}
 use Rattle.std.specs.declared.io.Error as io
 use Rattle.gixobj_fields.specs.declared.encode.Error.{Error}

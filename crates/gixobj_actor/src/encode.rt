@@ -2,13 +2,13 @@
 ghost use Rattle.std.specs.Prelude.{◌<◌, ◌+◌, ◌^◌, ◌≡◌, length, IfErr, OnOk};
 ghost use Rattle.std.specs.Option.{SomeIff};
 ghost use Rattle.gixobj_fields.specs.HeaderFormat.{encode_field};
-ghost use Rattle.gixobj_fields.specs.Streams.{AppendsAll};
+ghost use Rattle.gixobj_streams.specs.Streams.{AppendsAll};
 ghost use Rattle.gixobj_fields.specs.Writing.{AddsSize, IsWritingError, LacksRoom};
 ghost use Rattle.gixobj_actor.specs.ActorWriting.{IsLegal, IsActorFieldError, encode_owned_actor};
 
 use crate::actor::Signature;
 use gixobj_fields::encode::Error;
-use gixobj_fields::streams::{Sink, write_parts};
+use gixobj_streams::streams::{Sink, write_parts};
 
 /// Encodes the field of an actor and appends it to a sink: the name, a space, the actor and a newline
 /// (gitdatamodel, "commits").
@@ -20,7 +20,7 @@ use gixobj_fields::streams::{Sink, write_parts};
 /// - [`Error::IllegalActor`] if the name or the email of the actor has a `<`, a `>` or a newline. The
 ///   field's name and the space are appended then.
 /// - [`Error::Writer`] with the error of the sink. A proper prefix of the field is appended then.
-#[tactic(auto, using(gixobj_fields::proofs::Appends::appends_prefix_before_byte, gixobj_fields::proofs::Appends::appends_prefix_after_byte, gixobj_fields::proofs::Appends::appends_prefix_append))]
+#[tactic(auto, using(gixobj_streams::proofs::Appends::appends_prefix_before_byte, gixobj_streams::proofs::Appends::appends_prefix_after_byte, gixobj_streams::proofs::Appends::appends_prefix_append))]
 pub fn trusted_header_signature<S: Sink>(
     name: &[u8],
     actor: &Signature,

@@ -16,6 +16,7 @@ pub mod tree;
 
 pub use gixobj_actor::{actor, date};
 pub use gixobj_fields::stream_hash::compute_stream_hash;
-pub use gixobj_fields::{WriteTo, stream_hash, streams, traits};
+pub use gixobj_fields::{WriteTo, stream_hash, traits};
 pub use gixobj_hash::{Header, Kind, OutOfMemory, compute_hash, decode, hash, kind};
+pub use gixobj_streams::streams;
 pub use gixobj_tree::{Blob, BlobRef, Tree};

@@ -5,12 +5,12 @@ use Rattle.std.specs.Prelude.{IfErr}
 use Rattle.std.specs.declared.alloc.Global.{Global}
 use Rattle.std.specs.declared.vec.Vec.{Vec}
 use Rattle.std.specs.declared.io.ErrorKind.TheVariants.{OutOfMemory}
-use Rattle.gixobj_fields.specs.Streams.{AppendsAll, AppendsPrefix, SinkView, list_view}
+use Rattle.gixobj_streams.specs.Streams.{AppendsAll, AppendsPrefix, SinkView, list_view}
 use Rattle.std.specs.declared.io.Error as io
 use Rattle.gixobj_fields.specs.declared.encode.Error.{Error}
 use Rattle.gixobj_fields.specs.declared.encode.Error.TheVariants as error
 use Rattle.gixobj_fields.specs.Writing.{FailsAsSink, IsEncodingError, IsWritingError, LacksRoom, RejectedValue, RejectsNothing, StopsAt}
-use Rattle.gixobj_fields.proofs.Appends.{prefix_with_more_room, appends_prefix_middle, appends_all_append, appends_with_more_room}
+use Rattle.gixobj_streams.proofs.Appends.{prefix_with_more_room, appends_prefix_middle, appends_all_append, appends_with_more_room}
 
 stops_at_append : (R Q : RejectedValue → List ℕ → Type 0) (a b c : SinkView) (prefix : List ℕ) → AppendsAll a b prefix
     → ((value : RejectedValue) (parts : List ℕ) → R value parts → Q value (prefix ++ parts)) → (value : RejectedValue) → StopsAt R b c value

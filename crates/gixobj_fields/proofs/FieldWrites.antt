@@ -13,10 +13,10 @@ use Rattle.gixobj_hash.specs.Hash.{encode_id_hex, id_bytes}
 use Rattle.gixobj_hash.specs.declared.hash.object_id.ObjectId.{ObjectId}
 use Rattle.gixobj_fields.specs.HeaderFormat.{encode_field, encode_continuation, encode_line}
 use Rattle.gixobj_hash.specs.ByteStrings.{IsByteFree, SplitsAt}
-use Rattle.gixobj_fields.specs.Streams.{AppendsAll, AppendsPrefix, SinkView}
+use Rattle.gixobj_streams.specs.Streams.{AppendsAll, AppendsPrefix, SinkView}
 use Rattle.std.specs.declared.io.Error as io
 use Rattle.gixobj_fields.specs.Writing.{RejectsNothing}
-use Rattle.gixobj_fields.proofs.Appends.{appends_prefix_middle}
+use Rattle.gixobj_streams.proofs.Appends.{appends_prefix_middle}
 use Rattle.gixobj_fields.specs.FieldWriting.{IsLastLine, IsFieldError, folded, value_lines}
 
 -- bytes without a byte do not contain it

@@ -2,8 +2,6 @@ pub mod FieldWrites
 mod FoldedSizes
 pub mod HeaderFields
 pub mod HeadersRoundTrip
-pub mod Concatenations
-pub mod Appends
 pub mod Readers
 pub mod Errors
 pub mod Runs

@@ -1,7 +1,7 @@
 -- Four parts that are written or counted in order; used by the proofs of commits.
 use Rattle.std.proofs.Common.{◌≡◌, ◌+◌, ◌<◌, ℕ, List, ◌++◌, arith, length, ap, length-append}
-use Rattle.gixobj_fields.proofs.Appends.{appends_prefix_first, appends_prefix_append, appends_all_append}
-use Rattle.gixobj_fields.specs.Streams.{AppendsAll, AppendsPrefix, SinkView}
+use Rattle.gixobj_streams.proofs.Appends.{appends_prefix_first, appends_prefix_append, appends_all_append}
+use Rattle.gixobj_streams.specs.Streams.{AppendsAll, AppendsPrefix, SinkView}
 use Rattle.std.specs.declared.io.Error as io
 
 -- four parts, concatenated

@@ -4,7 +4,7 @@ pub mod HeaderFormat
 pub mod Iterators
 pub mod Runs
 pub mod StreamHash
-pub mod Streams
+pub use Rattle.gixobj_streams.specs.Streams
 pub mod Writing
 pub use Rattle.gixobj_hash.specs.Bytes
 pub use Rattle.gixobj_hash.specs.Decode

@@ -6,14 +6,14 @@ ghost use Rattle.std.specs.Str.{str_to_ascii_lowercase};
 ghost use Rattle.gixobj_hash.specs.Hash.{encode_id_hex};
 ghost use Rattle.gixobj_fields.specs.FieldWriting.{IsLastLine, IsFieldError, folded, newlines};
 ghost use Rattle.gixobj_fields.specs.HeaderFormat.{encode_field};
-ghost use Rattle.gixobj_fields.specs.Streams.{AppendsAll, AppendsOrFails};
+ghost use Rattle.gixobj_streams.specs.Streams.{AppendsAll, AppendsOrFails};
 ghost use Rattle.gixobj_fields.specs.Writing.{AddsSize, IsWritingError, LacksRoom, RejectsNothing};
 ghost use Rattle.gixobj_hash.specs.Bytes.{newline, space};
 
-use crate::streams::{Sink, write_both};
 use bstr::BString;
 use gixobj_hash::hash::ObjectId;
 use gixobj_hash::split::{has_byte, split_at_byte};
+use gixobj_streams::streams::{Sink, write_both};
 use std::alloc::{AllocError, Global};
 use std::io;
 
@@ -115,7 +115,7 @@ impl From<AllocError> for Error {
 ///
 /// The error of the sink. A proper prefix of the field has then been written.
 #[inline(always)]
-#[tactic(auto, using(crate::proofs::Appends::appends_prefix_before_byte, crate::proofs::Appends::appends_or_fails_after_byte))]
+#[tactic(auto, using(gixobj_streams::proofs::Appends::appends_prefix_before_byte, gixobj_streams::proofs::Appends::appends_or_fails_after_byte))]
 pub fn trusted_header_field<S: Sink>(name: &[u8], value: &[u8], sink: &mut S) -> io::Result<()>
     ensures appended { AppendsOrFails result (S.view sink.old) (S.view sink.new)
         (encode_field name.now value.now) }
@@ -192,7 +192,7 @@ fn write_lower_case<S: Sink>(name: &[u8], content: &[u8], sink: &mut S) -> io::R
 /// - [`Error::Writer`] if the sink failed. A proper prefix of the field has then been written.
 ///
 /// At the first three errors nothing was written.
-#[tactic(auto, using(crate::proofs::Appends::appends_all_nil))]
+#[tactic(auto, using(gixobj_streams::proofs::Appends::appends_all_nil))]
 pub fn header_field<S: Sink>(
     alloc: Global,
     name: &[u8],
@@ -226,7 +226,7 @@ pub fn header_field<S: Sink>(
 /// # Errors
 ///
 /// The error of the sink. A proper prefix of the header has then been written.
-#[tactic(auto, using(crate::proofs::Appends::appends_prefix_before_byte, crate::proofs::Appends::appends_or_fails_after_byte))]
+#[tactic(auto, using(gixobj_streams::proofs::Appends::appends_prefix_before_byte, gixobj_streams::proofs::Appends::appends_or_fails_after_byte))]
 pub fn header_field_multi_line<S: Sink>(name: &[u8], value: &[u8], sink: &mut S) -> io::Result<()>
     ensures appended { AppendsOrFails result (S.view sink.old) (S.view sink.new)
         (name.now ++ space ∷ folded value.now) }
@@ -237,7 +237,7 @@ pub fn header_field_multi_line<S: Sink>(name: &[u8], value: &[u8], sink: &mut S)
 }
 
 /// Appends the lines of a value.
-#[tactic(auto, using(crate::proofs::FieldWrites::appends_prefix_of_folded, crate::proofs::Appends::appends_or_fails_append))]
+#[tactic(auto, using(crate::proofs::FieldWrites::appends_prefix_of_folded, gixobj_streams::proofs::Appends::appends_or_fails_append))]
 fn write_folded<S: Sink>(value: &[u8], sink: &mut S) -> io::Result<()>
     ensures appended { AppendsOrFails result (S.view sink.old) (S.view sink.new)
         (folded value.now) }

@@ -1,7 +1,7 @@
 //! Laws of header fields and of writers. The contract of each function is the law, and its body is empty.
 ghost use Rattle.std.specs.Prelude.{◌≡◌, ℕ, List};
 ghost use Rattle.gixobj_fields.specs.FieldWriting.{encode_header};
-ghost use Rattle.gixobj_fields.specs.Streams.{SinkView};
+ghost use Rattle.gixobj_streams.specs.Streams.{SinkView};
 ghost use Rattle.gixobj_fields.specs.Writing.{FailsAsSink, RejectsNothing, IsWritingError};
 ghost use Rattle.gixobj_fields.specs.declared.encode.Error.{Error};
 ghost use Rattle.gixobj_fields.specs.HeaderFormat.{BeginsWithField, BeginsWithHeader, Header, DecodesToHeader};

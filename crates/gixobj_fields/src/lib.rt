@@ -8,7 +8,6 @@ pub mod parse;
 pub mod pieces;
 pub mod short;
 pub mod stream_hash;
-pub mod streams;
 pub mod traits;
 
 pub use traits::WriteTo;

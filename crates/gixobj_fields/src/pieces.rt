@@ -5,7 +5,7 @@ ghost use Rattle.std.specs.Io.KnownBytes.{Consumes};
 ghost use Rattle.gixobj_fields.specs.StreamHash.{IsStreamError};
 
 use crate::stream_hash::Error;
-use crate::streams::Source;
+use gixobj_streams::streams::Source;
 
 /// The maximum number of bytes of one read.
 pub const BUFFER_LEN: usize = 8192;

@@ -5,10 +5,10 @@ ghost use Rattle.gixobj_fields.specs.StreamHash.{AddsBytes, ReadsExactly, ReadsO
 ghost use Rattle.gixobj_fields.specs.declared.stream_hash.Error.TheVariants.{UnexpectedEof};
 
 use crate::pieces::{BUFFER_LEN, read_piece};
-use crate::streams::{FromRead, Source};
 use gixobj_hash::digest::{Hasher, object_hasher};
 use gixobj_hash::hash::ObjectId;
 use gixobj_hash::{Kind, hash};
+use gixobj_streams::streams::{FromRead, Source};
 use std::io;
 use std::io::Read;
 

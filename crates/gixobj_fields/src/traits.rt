@@ -4,15 +4,15 @@ ghost use Rattle.std.specs.Io.KnownBytes.{Appends};
 ghost use Rattle.std.specs.Option.{SomeIff};
 ghost use Rattle.gixobj_hash.specs.Encode.{encode_loose_header};
 ghost use Rattle.gixobj_hash.specs.Hash.{id_of};
-ghost use Rattle.gixobj_fields.specs.Streams.{AppendsAll, list_view, writer_view};
+ghost use Rattle.gixobj_streams.specs.Streams.{AppendsAll, list_view, writer_view};
 ghost use Rattle.gixobj_fields.specs.Writing.{IsEncodingError, IsSize, IsWritingError, LacksRoom, RejectsNothing};
 
 use crate::encode;
-use crate::streams::{Sink, ToWrite};
 use gixobj_hash::digest::compute_hash;
 use gixobj_hash::encode::loose_header;
 use gixobj_hash::hash::ObjectId;
 use gixobj_hash::{Kind, hash};
+use gixobj_streams::streams::{Sink, ToWrite};
 use smallvec::SmallVec;
 use std::alloc::Global;
 use std::io::Write;

@@ -2,7 +2,7 @@
 use Rattle.std.specs.Prelude.{◌≡◌, ◌⊎◌, ℕ, Err, List, [], Option, Result, Some, length}
 use Rattle.std.specs.declared.alloc.Global.{Global}
 use Rattle.std.specs.declared.vec.Vec.{Vec}
-use Rattle.gixobj_fields.specs.Streams.{list_view}
+use Rattle.gixobj_streams.specs.Streams.{list_view}
 use Rattle.gixobj_fields.specs.Writing.{RejectedValue, RejectsNothing, IsWritingError}
 use Rattle.gixobj_fields.specs.declared.encode.Error as encode
 use Rattle.gixobj_hash.specs.declared.hash.object_id.ObjectId.{ObjectId}

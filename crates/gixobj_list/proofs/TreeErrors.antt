@@ -4,7 +4,7 @@ use Rattle.std.specs.Prelude.{codes}
 use Rattle.gixobj_hash.specs.Decode.{IsLooseContentError}
 use Rattle.gixobj_hash.specs.declared.decode.LooseContentError.{LooseContentError}
 use Rattle.gixobj_hash.specs.declared.hash.kind.Kind as hash
-use Rattle.gixobj_fields.specs.Streams.{SinkView}
+use Rattle.gixobj_streams.specs.Streams.{SinkView}
 use Rattle.gixobj_list.specs.Listing.{IsUnlisted, IsListError, IsListedTreeError, IsListingError}
 use Rattle.gixobj_show.proofs.Contents.{show_error_of_content}
 use Rattle.gixobj_show.specs.Engine.{ReadsAll, HasWrittenNothing}

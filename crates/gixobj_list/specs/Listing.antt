@@ -11,7 +11,7 @@ use Rattle.gixobj_hash.specs.declared.hash.kind.Kind as hash
 use Rattle.gixobj_hash.specs.declared.kind.Kind.{Kind}
 use Rattle.gixobj_hash.specs.declared.kind.Kind.TheVariants.{Tree}
 use Rattle.gixobj_entries.specs.TreeDecoding.{BeginsWithEntry, IsMalformedTree, DecodesToTree}
-use Rattle.gixobj_fields.specs.Streams.{AppendsAll, FailsToAppend, SinkView}
+use Rattle.gixobj_streams.specs.Streams.{AppendsAll, FailsToAppend, SinkView}
 use Rattle.gixobj_show.specs.Engine.{ReadsAll, IsPrinted, HasWrittenNothing}
 use Rattle.gixobj_show.specs.Failure.{BeginsWithNoLooseHeader, exit_status_of, line_of}
 use Rattle.gixobj_show.specs.Arguments.{IsCommand, IsCommandOfHash}

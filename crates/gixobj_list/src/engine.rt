@@ -1,13 +1,13 @@
 //! The commands `show` and `tree`, over any reader and any two writers.
 ghost use Rattle.std.specs.Prelude.{◌≡◌, ◌≢◌, codes, map, ⊤};
 ghost use Rattle.std.specs.String.{string_bytes};
-ghost use Rattle.gixobj_fields.specs.Streams.{writer_view};
+ghost use Rattle.gixobj_streams.specs.Streams.{writer_view};
 ghost use Rattle.gixobj_list.specs.Listing.{IsListCommand, IsUnlisted, Listed};
 ghost use Rattle.gixobj_show.specs.Arguments.{IsOtherCommand};
 ghost use Rattle.gixobj_show.specs.Engine.{Answered, IsReportedError};
 
 use crate::tree::{list, list_read};
-use gixobj_fields::streams::{Sink, Source};
+use gixobj_streams::streams::{Sink, Source};
 use gixobj_show::arguments::requested_hash;
 use std::alloc::Global;
 use std::io::{Read, Write};

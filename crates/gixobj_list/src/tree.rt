@@ -1,7 +1,7 @@
 //! The command `tree`, which lists the entries of a loose tree over any reader and any two writers.
 ghost use Rattle.std.specs.Prelude.{◌≡◌, ◌≢◌, [], ◌++◌, codes, map, IfOk, IfErr, OnErr, OnOk, ⊤};
 ghost use Rattle.std.specs.String.{string_bytes};
-ghost use Rattle.gixobj_fields.specs.Streams.{writer_view};
+ghost use Rattle.gixobj_streams.specs.Streams.{writer_view};
 ghost use Rattle.gixobj_hash.specs.Decode.{HasContent};
 ghost use Rattle.gixobj_hash.specs.declared.kind.Kind.TheVariants.{Tree};
 ghost use Rattle.gixobj_list.specs.Listing.{IsListed, IsUnlisted, Listed, IsListError, IsListingError, IsListedTreeError, entry_line, listing_of};
@@ -10,7 +10,7 @@ ghost use Rattle.gixobj_show.specs.Arguments.{IsCommandOfHash};
 ghost use Rattle.gixobj_entries.specs.EntryViews.{entry_view};
 ghost use Rattle.gixobj_tree.specs.TreeViews.{tree_entries};
 
-use gixobj_fields::streams::{FromRead, Sink, Source, ToWrite};
+use gixobj_streams::streams::{FromRead, Sink, Source, ToWrite};
 use gixobj_hash::decode::{Error, loose_content};
 use gixobj_hash::{Kind, hash};
 use gixobj_show::Failure;

@@ -2,7 +2,7 @@
 //! this program builds faster.
 #![tactic(auto)]
 
-use gixobj_fields::streams::ToWrite;
+use gixobj_streams::streams::ToWrite;
 use gixobj_list::engine::engine;
 use gixobj_show::arguments::process_arguments;
 use gixobj_show::engine::report_to;

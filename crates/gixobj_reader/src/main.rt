@@ -2,7 +2,7 @@
 //! so it builds fast.
 #![tactic(auto)]
 
-use gixobj_fields::streams::ToWrite;
+use gixobj_streams::streams::ToWrite;
 use gixobj_show::arguments::process_arguments;
 use gixobj_show::engine::{engine, report_to};
 use std::process::ExitCode;

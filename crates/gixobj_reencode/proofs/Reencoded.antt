@@ -7,7 +7,7 @@ use Rattle.gixobj_calls.specs.Buffers.{WritesBytes}
 use Rattle.gixobj_reencode.specs.Reencoding.{Allocates, IsFailure, IsReencodeCall, IsReencoded, IsUnencodable, RejectsSome, failure_of_decoding, failure_of_encoding}
 use Rattle.gixobj_reencode.specs.declared.reencoding.Failure.{Failure}
 use Rattle.gixobj_reencode.specs.declared.reencoding.Failure.TheVariants as failure
-use Rattle.gixobj_fields.specs.Streams.{SinkView}
+use Rattle.gixobj_streams.specs.Streams.{SinkView}
 use Rattle.gixobj_fields.specs.Writing.{IsWritingError, RejectedValue, StopsAt}
 use Rattle.gixobj_fields.specs.declared.encode.Error.{Error}
 use Rattle.gixobj_fields.specs.declared.encode.Error.TheVariants as error

@@ -6,7 +6,7 @@ use Rattle.gixobj_script.specs.Arguments.{IsEditCommand}
 use Rattle.gixobj_script.specs.declared.fault.Fault.{Fault}
 use Rattle.gixobj_script.specs.declared.fault.Fault.TheVariants as fault
 use Rattle.gixobj_script.specs.declared.script.ScriptError.TheVariants as script
-use Rattle.gixobj_fields.specs.Streams.{AppendsAll, FailsToAppend, SinkView}
+use Rattle.gixobj_streams.specs.Streams.{AppendsAll, FailsToAppend, SinkView}
 use Rattle.gixobj_hash.specs.declared.hash.kind.Kind as hash
 use Rattle.gixobj_show.specs.Engine.{ReadsAll, IsPrinted, HasWrittenNothing}
 use Rattle.gixobj_show.specs.Arguments.{IsCommandOfHash}

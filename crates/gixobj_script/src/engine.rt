@@ -4,13 +4,13 @@ ghost use Rattle.std.specs.String.{string_bytes};
 ghost use Rattle.gixobj_script.specs.Engine.{Edited, IsFault, IsEditingError, EditHasWrittenNothing};
 ghost use Rattle.gixobj_list.specs.Listing.{IsListCommand, IsUnlisted, Listed};
 ghost use Rattle.gixobj_script.specs.Arguments.{IsNeitherCommand, IsEditCommand};
-ghost use Rattle.gixobj_fields.specs.Streams.{writer_view};
+ghost use Rattle.gixobj_streams.specs.Streams.{writer_view};
 ghost use Rattle.gixobj_show.specs.Engine.{Answered, IsReportedError};
 ghost use Rattle.gixobj_show.specs.Arguments.{IsCommandOfHash};
 
 use crate::editing::edit;
 use crate::fault::{Fault, report_fault};
-use gixobj_fields::streams::{FromRead, Sink, Source, ToWrite};
+use gixobj_streams::streams::{FromRead, Sink, Source, ToWrite};
 use gixobj_hash::hash;
 use gixobj_show::Failure;
 use gixobj_show::arguments::requested_hash;

@@ -4,7 +4,7 @@ ghost use Rattle.gixobj_script.specs.Faults.{bad_line, fault_line, fault_status}
 ghost use Rattle.gixobj_show.specs.Engine.{IsPrinted};
 
 use crate::ScriptError;
-use gixobj_fields::streams::Sink;
+use gixobj_streams::streams::Sink;
 use gixobj_show::Failure;
 use gixobj_show::engine::report_to;
 use itoa::Buffer;
@@ -48,7 +48,7 @@ fn line_for(alloc: Global, number: u64) -> SmallVec<u8, 40>
 }
 
 /// Writes a line, or a prefix of it if the sink has no more room.
-#[tactic(auto, using(gixobj_fields::proofs::Appends::appends_all_or_fails))]
+#[tactic(auto, using(gixobj_streams::proofs::Appends::appends_all_or_fails))]
 fn report_line<E: Sink>(line: &[u8], errors: &mut E)
     ensures reported { IsPrinted (E.view errors.old) (E.view errors.new) line.now }
     ensures same_loan { E.loan errors.new ≡ E.loan errors.old }

@@ -1,7 +1,7 @@
 -- An error of `show` over an input that was read to its end is an error of the run.
 use Rattle.std.proofs.Common.{ℕ, List, Option}
 use Rattle.std.specs.Prelude.{codes}
-use Rattle.gixobj_fields.specs.Streams.{SinkView}
+use Rattle.gixobj_streams.specs.Streams.{SinkView}
 use Rattle.gixobj_show.specs.Engine.{ReadsAll, IsAnswerError}
 use Rattle.gixobj_show.specs.Show.{IsShowError}
 use Rattle.gixobj_show.specs.Arguments.{IsCommand}

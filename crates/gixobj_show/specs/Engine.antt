@@ -2,7 +2,7 @@
 use Rattle.std.specs.Prelude.{◌≡◌, ◌⊎◌, ℕ, List, Option, codes}
 use Rattle.std.specs.Io.KnownBytes.{Consumes, IsAtEnd}
 use Rattle.gixobj_hash.specs.Decode.{IsShort}
-use Rattle.gixobj_fields.specs.Streams.{AppendsAll, FailsToAppend, SinkView}
+use Rattle.gixobj_streams.specs.Streams.{AppendsAll, FailsToAppend, SinkView}
 use Rattle.gixobj_hash.specs.declared.hash.kind.Kind as hash
 use Rattle.gixobj_show.specs.Failure.{BeginsWithNoLooseHeader, exit_status_of, line_of}
 use Rattle.gixobj_show.specs.Show.{IsShowLine}

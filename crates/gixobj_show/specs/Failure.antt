@@ -1,5 +1,5 @@
 -- The errors of the program, with their lines and exit statuses.
-use Rattle.std.specs.Prelude.{ℕ, List, codes}
+use Rattle.std.specs.Prelude.{◌∷◌, ◌++◌, ℕ, List, [], codes}
 use Rattle.gixobj_hash.specs.Decode.{HasLooseHeaderOfLength}
 use Rattle.gixobj_hash.specs.declared.decode.LooseContentError.{LooseContentError}
 use Rattle.gixobj_hash.specs.declared.decode.LooseContentError.TheVariants.{Header, Short}
@@ -7,7 +7,7 @@ use Rattle.gixobj_hash.specs.declared.decode.LooseHeaderDecodeError.TheVariants 
 use Rattle.gixobj_hash.specs.declared.kind.Kind.{Kind}
 use Rattle.gixobj_show.specs.declared.failure.Failure.{Failure}
 use Rattle.gixobj_show.specs.declared.failure.Failure.TheVariants.{Usage, InputFailed, OutputFailed, OutOfMemory, BadHeader, ShortData, NotATree, BadTree}
-use Rattle.gixobj_fields.specs.HeaderFormat.{encode_line}
+use Rattle.gixobj_hash.specs.Bytes.{newline}
 
 -- the input does not begin with a loose header
 abbrev pub BeginsWithNoLooseHeader : List ℕ → Type 0
@@ -18,6 +18,10 @@ abbrev pub content_error : LooseContentError → Failure
 content_error (Header header.OutOfMemory) = OutOfMemory
 content_error (Header error) = BadHeader
 content_error (Short size) = ShortData
+
+-- a line: its text, and a newline
+abbrev encode_line : List ℕ → List ℕ
+encode_line text = text ++ newline ∷ []
 
 -- the line for standard error
 abbrev pub line_of : Failure → List ℕ

@@ -2,14 +2,14 @@
 ghost use Rattle.std.specs.Prelude.{◌≡◌, ◌≢◌, map, OnOk, IfErr, ⊤};
 ghost use Rattle.std.specs.String.{string_bytes};
 ghost use Rattle.gixobj_show.specs.Engine.{Answered, IsReportedError, IsAnswerError, IsPrinted, HasReadNothing, HasWrittenNothing};
-ghost use Rattle.gixobj_fields.specs.Streams.{writer_view};
+ghost use Rattle.gixobj_streams.specs.Streams.{writer_view};
 ghost use Rattle.gixobj_show.specs.Failure.{line_of, exit_status_of};
 
 use crate::arguments::requested_hash;
 use crate::failure::Failure;
 use crate::input::read_all;
 use crate::show::show;
-use gixobj_fields::streams::{FromRead, Sink, Source, ToWrite};
+use gixobj_streams::streams::{FromRead, Sink, Source, ToWrite};
 use std::alloc::Global;
 use std::io::{Read, Write};
 

@@ -4,7 +4,7 @@ ghost use Rattle.std.specs.Io.KnownBytes.{Consumes, IsAtEnd};
 ghost use Rattle.gixobj_show.specs.Input.{IsInputError};
 
 use crate::failure::Failure;
-use gixobj_fields::streams::Source;
+use gixobj_streams::streams::Source;
 use std::alloc::Global;
 
 /// Reads all remaining bytes of a source into a list, which allocates.

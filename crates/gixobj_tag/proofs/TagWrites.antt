@@ -2,10 +2,10 @@
 use Rattle.std.proofs.Common.{◌≡◌, ◌+◌, ◌≤◌, ◌⊎◌, ℕ, List, [], ◌∷◌, ◌++◌, Result, ap, arith, inl, inr, length, length-append, refl, sym, ◌∙◌}
 use Rattle.std.proofs.lemmas.List.{append-nil}
 use Rattle.std.specs.Prelude.{codes}
-use Rattle.gixobj_fields.proofs.Appends.{appends_prefix_first, appends_all_nil, appends_or_fails_append}
+use Rattle.gixobj_streams.proofs.Appends.{appends_prefix_first, appends_all_nil, appends_or_fails_append}
 use Rattle.gixobj_fields.proofs.Errors.{lacks_room_of_fewer, writing_error_append}
 use Rattle.gixobj_fields.specs.HeaderFormat.{encode_field}
-use Rattle.gixobj_fields.specs.Streams.{AppendsAll, AppendsPrefix, AppendsOrFails, SinkView}
+use Rattle.gixobj_streams.specs.Streams.{AppendsAll, AppendsPrefix, AppendsOrFails, SinkView}
 use Rattle.gixobj_fields.specs.Writing.{IsWritingError, LacksRoom, RejectedValue, RejectsNothing}
 use Rattle.std.specs.declared.io.Error as io
 use Rattle.gixobj_fields.specs.declared.encode.Error.{Error}

@@ -1,7 +1,7 @@
 //! Blobs, which are the contents of files.
 ghost use Rattle.std.specs.Prelude.{◌≡◌, IfOk};
 
-use gixobj_fields::streams::Sink;
+use gixobj_streams::streams::Sink;
 use gixobj_fields::{WriteTo, encode};
 use gixobj_hash::{Kind, OutOfMemory};
 use std::alloc::Global;

@@ -5,7 +5,7 @@ ghost use Rattle.std.specs.Option.{SomeIff};
 ghost use Rattle.bstr.specs.BStr.{bstr_bytes};
 ghost use Rattle.gixobj_hash.specs.Hash.{IsIdHex, encode_id_hex};
 ghost use Rattle.gixobj_fields.specs.HeaderFormat.{encode_field};
-ghost use Rattle.gixobj_fields.specs.Streams.{AppendsAll, AppendsOrFails};
+ghost use Rattle.gixobj_streams.specs.Streams.{AppendsAll, AppendsOrFails};
 ghost use Rattle.gixobj_fields.specs.Writing.{AddsSize, IsSize, IsWritingError, LacksRoom, RejectsNothing};
 ghost use Rattle.gixobj_line.specs.Commit.{encode_encoding};
 ghost use Rattle.gixobj_hash.specs.Optional.{bytes_if_some};
@@ -21,7 +21,7 @@ use gixobj_fields::encode::{
     Error, header_field, header_field_multi_line, size_plus_field, size_plus_id, size_with_hex,
     size_with_multi_line, trusted_header_field, trusted_header_hex, trusted_header_id,
 };
-use gixobj_fields::streams::{Sink, write_parts};
+use gixobj_streams::streams::{Sink, write_parts};
 use gixobj_hash::Kind;
 use gixobj_hash::hash::ObjectId;
 use std::alloc::Global;

@@ -3,7 +3,7 @@
 ghost use Rattle.std.specs.Prelude.{◌≡◌, ◌≢◌, ◌<◌, ◌+◌, ◌++◌, ℕ, All, IfErr, List, [], OnOk, Some, length, vec_capacity, vec_len};
 ghost use Rattle.std.specs.List.{AllPass};
 ghost use Rattle.gixobj_hash.specs.Hash.{is_lower_hex_digit};
-ghost use Rattle.gixobj_fields.specs.Streams.{SinkView, list_view};
+ghost use Rattle.gixobj_streams.specs.Streams.{SinkView, list_view};
 ghost use Rattle.gixobj_fields.specs.Writing.{FailsAsSink, RejectsNothing, IsWritingError};
 ghost use Rattle.gixobj_fields.specs.declared.encode.Error.{Error};
 ghost use Rattle.gixobj_hash.specs.declared.decode.Error.TheVariants.{Malformed};

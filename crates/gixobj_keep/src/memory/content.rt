@@ -5,7 +5,7 @@ ghost use Rattle.gixobj_keep.specs.Memory.{IsContentError};
 
 use crate::write::Error;
 use gixobj_fields::pieces::{BUFFER_LEN, read_piece};
-use gixobj_fields::streams::Source;
+use gixobj_streams::streams::Source;
 use std::alloc::Global;
 
 /// Reads exactly the next `size` bytes of a source. Allocates them piece by piece.

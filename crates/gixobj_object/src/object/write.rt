@@ -3,7 +3,7 @@
 use super::Object;
 use gixobj_fields::WriteTo;
 use gixobj_fields::encode::Error;
-use gixobj_fields::streams::Sink;
+use gixobj_streams::streams::Sink;
 use gixobj_hash::Kind;
 use std::alloc::Global;
 

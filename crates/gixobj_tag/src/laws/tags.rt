@@ -1,7 +1,7 @@
 //! Laws of decoding and writing tags. One of them makes a call, and its contract says what the call returns.
 //! The others do nothing, and their contract is the law.
 ghost use Rattle.std.specs.Prelude.{◌≡◌, ◌<◌, ◌+◌, ◌++◌, ℕ, IfErr, List, OnOk, length, vec_capacity, vec_len};
-ghost use Rattle.gixobj_fields.specs.Streams.{SinkView, list_view};
+ghost use Rattle.gixobj_streams.specs.Streams.{SinkView, list_view};
 ghost use Rattle.gixobj_fields.specs.Writing.{FailsAsSink, RejectsNothing, IsWritingError};
 ghost use Rattle.gixobj_fields.specs.declared.encode.Error as encode;
 ghost use Rattle.gixobj_hash.specs.declared.hash.kind.Kind.{Kind};

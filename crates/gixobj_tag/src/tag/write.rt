@@ -3,7 +3,7 @@ ghost use Rattle.std.specs.Prelude.{◌≡◌, ◌↔◌, ◌<◌, ◌≤◌, �
 ghost use Rattle.std.specs.Option.{SomeIff};
 ghost use Rattle.bstr.specs.BStr.{bstr_bytes};
 ghost use Rattle.gixobj_fields.specs.HeaderFormat.{encode_field, encode_line};
-ghost use Rattle.gixobj_fields.specs.Streams.{AppendsAll, AppendsOrFails};
+ghost use Rattle.gixobj_streams.specs.Streams.{AppendsAll, AppendsOrFails};
 ghost use Rattle.gixobj_fields.specs.Writing.{AddsSize, IsSize, IsWritingError, LacksRoom, RejectsNothing};
 ghost use Rattle.gixobj_tag.specs.NameRule.{IsTagName, IsTagNameError};
 ghost use Rattle.gixobj_tag.specs.TagFormat.{encode_target_lines};
@@ -21,7 +21,7 @@ use gixobj_actor::actor::Signature;
 use gixobj_actor::encode::trusted_header_signature;
 use gixobj_fields::WriteTo;
 use gixobj_fields::encode::{self, size_plus_field, size_plus_id, trusted_header_id};
-use gixobj_fields::streams::Sink;
+use gixobj_streams::streams::Sink;
 use gixobj_hash::Kind;
 use gixobj_hash::hash::ObjectId;
 use gixobj_tokens::bodies::are_newlines;
@@ -320,7 +320,7 @@ fn kind_line(kind: Kind) -> &'static [u8]
 }
 
 /// Writes the line of a name, or rejects the name.
-#[tactic(auto, using(gixobj_fields::proofs::Appends::appends_all_nil))]
+#[tactic(auto, using(gixobj_streams::proofs::Appends::appends_all_nil))]
 fn write_name<S: Sink>(name: BStr<'_>, sink: &mut S) -> Result<(), encode::Error>
     ensures written { OnOk result (AppendsAll (S.view sink.old) (S.view sink.new)
         (encode_field (codes "tag") (bstr_bytes name.entry))) }
@@ -386,7 +386,7 @@ fn write_message<S: Sink>(message: BStr<'_>, sink: &mut S) -> io::Result<()>
 
 /// Writes a newline and the signature, or nothing without one.
 #[inline(always)]
-#[tactic(auto, using(gixobj_fields::proofs::Appends::appends_all_nil))]
+#[tactic(auto, using(gixobj_streams::proofs::Appends::appends_all_nil))]
 fn write_signature<S: Sink>(signature: Option<BStr<'_>>, sink: &mut S) -> io::Result<()>
     ensures appended { AppendsOrFails result (S.view sink.old) (S.view sink.new)
         (encode_signature (bytes_if_some signature.entry)) }

@@ -10,14 +10,14 @@ ghost use Rattle.gixobj_mode.specs.Mode.{mode_bits, encode_mode};
 ghost use Rattle.gixobj_entries.specs.EntryViews.{entry_view};
 ghost use Rattle.gixobj_tree.specs.TreeEncoding.{IsDigestResult, IsEntryEncodeError, encode_entry};
 ghost use Rattle.gixobj_tree.specs.TreeSizes.{encode_mode_and_name, with_ids};
-ghost use Rattle.gixobj_fields.specs.Streams.{AppendsAll, AppendsOrFails};
+ghost use Rattle.gixobj_streams.specs.Streams.{AppendsAll, AppendsOrFails};
 ghost use Rattle.gixobj_fields.specs.Writing.{AddsSize, IsWritingError, LacksRoom};
 
 use super::{Entry, EntryMode, EntryRef, Tree};
 use bstr::BString;
 use gixobj_fields::WriteTo;
 use gixobj_fields::encode::Error;
-use gixobj_fields::streams::{Sink, write_parts};
+use gixobj_streams::streams::{Sink, write_parts};
 use gixobj_hash::Kind;
 use gixobj_hash::hash::{self, ObjectId, oid};
 use gixobj_hash::split::has_byte;
@@ -182,7 +182,7 @@ pub fn write_entry<S: Sink>(
 
 /// Appends the name, a zero byte and the id.
 #[inline(always)]
-#[tactic(auto, using(gixobj_fields::proofs::Appends::appends_prefix_first, gixobj_fields::proofs::Appends::appends_or_fails_append))]
+#[tactic(auto, using(gixobj_streams::proofs::Appends::appends_prefix_first, gixobj_streams::proofs::Appends::appends_or_fails_append))]
 fn write_name_and_id<S: Sink>(name: &[u8], id: oid<'_>, sink: &mut S) -> io::Result<()>
     ensures appended { AppendsOrFails result (S.view sink.old) (S.view sink.new)
         (name.now ++ 0 ∷ id_bytes (borrowed_id id.entry)) }

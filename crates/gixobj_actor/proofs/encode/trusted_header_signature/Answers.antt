@@ -1,6 +1,6 @@
 -- The parts of the field are appended one after the other.
 use Rattle.std.proofs.Common.{[], ◌∷◌, ◌++◌, subst, sym}
-use Rattle.gixobj_fields.specs.Streams.{AppendsAll}
+use Rattle.gixobj_streams.specs.Streams.{AppendsAll}
 use Rattle.gixobj_actor.proofs.SignatureFields.{field_error_of_actor_error, field_room_of_actor_error}
 use Rattle.gixobj_actor.proofs.encode.trusted_header_signature.Goals as goal
 

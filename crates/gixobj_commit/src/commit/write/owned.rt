@@ -5,7 +5,7 @@ use super::{ids_size, size_with_rest, write_ids, write_rest};
 use gixobj_actor::encode::{size_with_signature, trusted_header_signature};
 use gixobj_fields::WriteTo;
 use gixobj_fields::encode::Error;
-use gixobj_fields::streams::Sink;
+use gixobj_streams::streams::Sink;
 use gixobj_hash::Kind;
 use gixobj_hash::optional::borrowed;
 use std::alloc::Global;

@@ -2,7 +2,7 @@
 use Rattle.std.proofs.Common.{[], refl, rules, inl, inr}
 use Rattle.std.specs.Prelude.{Contains}
 use Rattle.std.proofs.lemmas.Result.{err_from_is_err_and}
-use Rattle.gixobj_fields.proofs.Appends.{appends_all_nil}
+use Rattle.gixobj_streams.proofs.Appends.{appends_all_nil}
 use Rattle.gixobj_fields.proofs.encode.header_field.Goals as goal
 
 pub returns-in_err-value-clause-error : goal.returns-in_err-value-clause-error

@@ -1,6 +1,6 @@
 -- The name and a space are a step of the append of the field.
 use Rattle.std.proofs.lemmas.Result.{err_from_is_err_and}
-use Rattle.gixobj_fields.proofs.Appends.{appends_or_fails_after_byte, appends_prefix_before_byte}
+use Rattle.gixobj_streams.proofs.Appends.{appends_or_fails_after_byte, appends_prefix_before_byte}
 use Rattle.gixobj_fields.proofs.encode.trusted_header_field.Goals as goal
 
 pub returns-in_err-write_both-clause-appended : goal.returns-in_err-write_both-clause-appended

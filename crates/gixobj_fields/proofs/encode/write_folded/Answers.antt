@@ -3,7 +3,7 @@ use Rattle.std.proofs.Common.{[], refl, ◌∷◌, ◌++◌, ◌∙◌, List, �
 use Rattle.std.proofs.lemmas.Result.{err_from_is_err_and}
 use Rattle.gixobj_fields.specs.FieldWriting.{folded}
 use Rattle.gixobj_fields.proofs.FieldWrites.{appends_prefix_of_folded, folded_prefix_append}
-use Rattle.gixobj_fields.proofs.Appends.{appends_all_append, appends_all_nil, appends_or_fails_append}
+use Rattle.gixobj_streams.proofs.Appends.{appends_all_append, appends_all_nil, appends_or_fails_append}
 use Rattle.gixobj_fields.proofs.encode.write_folded.Goals as goal
 
 pub loop-line-init : goal.loop-line-init

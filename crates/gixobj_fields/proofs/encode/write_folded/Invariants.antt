@@ -1,7 +1,7 @@
 -- A prefix of the encoding is written, and the remaining lines fold into the rest of it.
 use Rattle.std.proofs.Common.{◌≡◌, ◌++◌, ℕ, List, length}
 use Rattle.gixobj_fields.specs.FieldWriting.{folded}
-use Rattle.gixobj_fields.specs.Streams.{AppendsAll}
+use Rattle.gixobj_streams.specs.Streams.{AppendsAll}
 use Rattle.gixobj_fields.proofs.encode.write_folded.Given as goal
 
 abbrev pub invariant-loop-line : goal.invariant-loop-line

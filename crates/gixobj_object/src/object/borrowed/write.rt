@@ -5,7 +5,7 @@ ghost use Rattle.gixobj_object.specs.BorrowedObjects.{IsReadyToWrite, encode_bor
 use super::ObjectRef;
 use gixobj_fields::WriteTo;
 use gixobj_fields::encode::Error;
-use gixobj_fields::streams::Sink;
+use gixobj_streams::streams::Sink;
 use gixobj_hash::Kind;
 use std::alloc::Global;
 

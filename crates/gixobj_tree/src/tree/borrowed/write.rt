@@ -5,7 +5,7 @@ use super::TreeRef;
 use crate::tree::write::{size_with_entry_ref, write_entry_ref};
 use gixobj_fields::WriteTo;
 use gixobj_fields::encode::Error;
-use gixobj_fields::streams::Sink;
+use gixobj_streams::streams::Sink;
 use gixobj_hash::Kind;
 use std::alloc::Global;
 

@@ -1,5 +1,5 @@
 -- The size overflows if that of a prefix of the fields overflows.
-use Rattle.gixobj_fields.proofs.Concatenations.{joined_len, no_overflow_of_joined}
+use Rattle.gixobj_streams.proofs.Concatenations.{joined_len, no_overflow_of_joined}
 use Rattle.gixobj_commit.proofs.commit.write.size_with_all.Goals as goal
 
 pub returns-in_err-size : goal.returns-in_err-size

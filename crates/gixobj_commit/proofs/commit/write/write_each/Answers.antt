@@ -3,9 +3,9 @@ use Rattle.std.proofs.Common.{ℕ, List, ap, take, refl, subst, ◌∙◌}
 use Rattle.std.proofs.lemmas.List.{take_all}
 use Rattle.std.proofs.lemmas.Result.{err_from_is_err_and}
 use Rattle.std.specs.List.{flat_map}
-use Rattle.gixobj_fields.proofs.Concatenations.{appends_prefix_of_item, flat_map_take_succ}
-use Rattle.gixobj_fields.proofs.Appends.{appends_all_append, appends_all_nil}
-use Rattle.gixobj_fields.specs.Streams.{AppendsAll}
+use Rattle.gixobj_streams.proofs.Concatenations.{appends_prefix_of_item, flat_map_take_succ}
+use Rattle.gixobj_streams.proofs.Appends.{appends_all_append, appends_all_nil}
+use Rattle.gixobj_streams.specs.Streams.{AppendsAll}
 use Rattle.gixobj_commit.proofs.commit.write.write_each.Goals as goal
 
 pub loop-field-init : goal.loop-field-init

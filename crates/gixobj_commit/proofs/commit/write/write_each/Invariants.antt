@@ -1,7 +1,7 @@
 -- The fields before the current one are written.
 use Rattle.std.proofs.Common.{◌≡◌, take}
 use Rattle.std.specs.List.{flat_map}
-use Rattle.gixobj_fields.specs.Streams.{AppendsAll}
+use Rattle.gixobj_streams.specs.Streams.{AppendsAll}
 use Rattle.gixobj_commit.proofs.commit.write.write_each.Given as goal
 
 abbrev pub invariant-loop-field : goal.invariant-loop-field

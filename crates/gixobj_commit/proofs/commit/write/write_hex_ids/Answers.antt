@@ -1,7 +1,7 @@
 -- If a step fails, a prefix of its part is written after the parts before it.
 use Rattle.std.specs.List.{flat_map}
 use Rattle.std.proofs.lemmas.Result.{err_from_is_err_and}
-use Rattle.gixobj_fields.proofs.Appends.{appends_prefix_first, appends_or_fails_append}
+use Rattle.gixobj_streams.proofs.Appends.{appends_prefix_first, appends_or_fails_append}
 use Rattle.gixobj_commit.specs.CommitWriting.{hex_parent, hex_tree}
 use Rattle.gixobj_commit.proofs.commit.write.write_hex_ids.Goals as goal
 

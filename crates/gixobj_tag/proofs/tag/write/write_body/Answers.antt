@@ -1,7 +1,7 @@
 -- If the message fails, a prefix of it is one of the body; the signature follows the message.
 use Rattle.std.proofs.lemmas.Result.{err_from_is_err_and}
 use Rattle.bstr.specs.BStr.{bstr_bytes}
-use Rattle.gixobj_fields.proofs.Appends.{appends_prefix_first, appends_or_fails_append}
+use Rattle.gixobj_streams.proofs.Appends.{appends_prefix_first, appends_or_fails_append}
 use Rattle.gixobj_tag.specs.TagWriting.{encode_message, encode_signature}
 use Rattle.gixobj_hash.specs.Optional.{bytes_if_some}
 use Rattle.gixobj_tag.proofs.tag.write.write_body.Goals as goal

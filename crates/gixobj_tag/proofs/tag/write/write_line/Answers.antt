@@ -1,6 +1,6 @@
 -- The value and the newline follow the name.
 use Rattle.std.proofs.lemmas.Result.{err_from_is_err_and}
-use Rattle.gixobj_fields.proofs.Appends.{appends_prefix_first, appends_or_fails_append}
+use Rattle.gixobj_streams.proofs.Appends.{appends_prefix_first, appends_or_fails_append}
 use Rattle.gixobj_fields.specs.HeaderFormat.{encode_line}
 use Rattle.gixobj_tag.proofs.tag.write.write_line.Goals as goal
 

@@ -1,7 +1,7 @@
 -- The line of the kind follows that of the target.
 use Rattle.std.proofs.lemmas.Result.{err_from_is_err_and}
 use Rattle.std.specs.Prelude.{codes}
-use Rattle.gixobj_fields.proofs.Appends.{appends_prefix_first, appends_or_fails_append}
+use Rattle.gixobj_streams.proofs.Appends.{appends_prefix_first, appends_or_fails_append}
 use Rattle.gixobj_fields.specs.HeaderFormat.{encode_field}
 use Rattle.gixobj_hash.specs.Kind.{kind_name}
 use Rattle.gixobj_tag.proofs.tag.write.write_target.Goals as goal

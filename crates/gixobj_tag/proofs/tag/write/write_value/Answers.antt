@@ -1,7 +1,7 @@
 -- The newline follows the value.
 use Rattle.std.proofs.Common.{[], ◌∷◌}
 use Rattle.std.proofs.lemmas.Result.{err_from_is_err_and}
-use Rattle.gixobj_fields.proofs.Appends.{appends_prefix_first, appends_or_fails_append}
+use Rattle.gixobj_streams.proofs.Appends.{appends_prefix_first, appends_or_fails_append}
 use Rattle.gixobj_tag.proofs.tag.write.write_value.Goals as goal
 
 pub returns-in_err-write_bytes-clause-appended : goal.returns-in_err-write_bytes-clause-appended

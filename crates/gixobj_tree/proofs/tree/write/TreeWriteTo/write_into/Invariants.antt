@@ -1,6 +1,6 @@
 -- The entries before the current one are written, and their names have no zero byte.
 use Rattle.std.proofs.Common.{◌≡◌, take}
-use Rattle.gixobj_fields.specs.Streams.{AppendsAll}
+use Rattle.gixobj_streams.specs.Streams.{AppendsAll}
 use Rattle.gixobj_tree.proofs.TreeWrites.{AreFree}
 use Rattle.gixobj_tree.specs.TreeEncoding.{encode_tree}
 use Rattle.gixobj_tree.proofs.tree.write.TreeWriteTo.write_into.Given as goal

@@ -1,7 +1,7 @@
 -- The entries before the current one are written, and none of them is rejected.
 use Rattle.std.proofs.Common.{ap, map, sym, ◌∙◌}
 use Rattle.std.proofs.lemmas.Result.{err_from_is_err_and}
-use Rattle.gixobj_fields.proofs.Appends.{appends_all_append}
+use Rattle.gixobj_streams.proofs.Appends.{appends_all_append}
 use Rattle.gixobj_tree.proofs.TreeWrites.{are_free_take_succ, lacks_room_at_entry, no_error_of_free_tree, writing_error_at_entry, encode_tree_take_succ}
 use Rattle.gixobj_tree.proofs.Viewed.{map_view_len_le, map_view_at, map_view_index_lt}
 use Rattle.gixobj_tree.proofs.tree.borrowed.write.TreeRefWriteTo.write_into.Goals as goal

@@ -1,8 +1,8 @@
 -- The parts before the current one are written.
 use Rattle.std.proofs.Common.{◌≡◌, take}
 use Rattle.std.specs.List.{flat_map}
-use Rattle.gixobj_fields.specs.Streams.{AppendsAll}
-use Rattle.gixobj_fields.proofs.streams.write_parts.Given as goal
+use Rattle.gixobj_streams.specs.Streams.{AppendsAll}
+use Rattle.gixobj_streams.proofs.streams.write_parts.Given as goal
 
 abbrev pub invariant-loop-part : goal.invariant-loop-part
 invariant-loop-part g l =

@@ -1,6 +1,6 @@
 use Rattle.std.proofs.Common.{◌≡◌, ◌++◌, ℕ, List, length}
 use Rattle.std.specs.Io.KnownBytes.{Appends}
-use Rattle.gixobj_fields.proofs.streams.ToWriteSink.write_bytes.Given as goal
+use Rattle.gixobj_streams.proofs.streams.ToWriteSink.write_bytes.Given as goal
 
 -- a prefix of the bytes is written, and the loan is unchanged
 abbrev pub invariant-loop-rest : goal.invariant-loop-rest

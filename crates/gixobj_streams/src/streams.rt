@@ -8,7 +8,7 @@ ghost use Rattle.std.specs.Prelude.{◌≡◌, ◌++◌, ℕ, List, Option, Some
 ghost use Rattle.std.specs.Io.{ReadsAtMost, WritesAtMost};
 ghost use Rattle.std.specs.Io.KnownBytes.{ReadConsumes, WriteAppends};
 ghost use Rattle.std.specs.List.{flat_map};
-ghost use Rattle.gixobj_fields.specs.Streams.{AppendsOrFails, list_view, writer_view};
+ghost use Rattle.gixobj_streams.specs.Streams.{AppendsOrFails, list_view, writer_view};
 
 use std::io;
 use std::io::{ErrorKind, Read, Write};
@@ -77,7 +77,7 @@ impl<R: Read> Source for FromRead<'_, R> {
 
 /// A writer whose contract says when a call may fail. [`ToWrite`] makes one of any writer.
 pub trait Sink {
-    ghost use Rattle.gixobj_fields.specs.Streams.{SinkView};
+    ghost use Rattle.gixobj_streams.specs.Streams.{SinkView};
 
     /// The written bytes, if they are known, how many more bytes are certain to be accepted, and the kind of
     /// the errors, if it is known.
@@ -171,10 +171,13 @@ pub fn write_parts<S: Sink>(parts: &[&[u8]], sink: &mut S) -> io::Result<()>
     Ok(())
 }
 
-/// Appends two byte strings. It fails only if the sink has no room for both, and a proper prefix of both
-/// is then written. Only the sink may allocate.
+/// Appends two byte strings. Only the sink may allocate.
+///
+/// # Errors
+///
+/// The error of the sink, only if it has no room for both. A proper prefix of both has then been written.
 #[inline(always)]
-pub(crate) fn write_both<S: Sink>(first: &[u8], second: &[u8], sink: &mut S) -> io::Result<()>
+pub fn write_both<S: Sink>(first: &[u8], second: &[u8], sink: &mut S) -> io::Result<()>
     ensures appended { AppendsOrFails result (S.view sink.old) (S.view sink.new) (first.now
         ++ second.now) }
     ensures same_loan { S.loan sink.new ≡ S.loan sink.old }

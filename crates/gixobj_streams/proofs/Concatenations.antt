@@ -3,8 +3,8 @@ use Rattle.std.proofs.Common.{◌≡◌, ℕ, ◌+◌, ◌<◌, ◌≤◌, ◌^�
 use Rattle.std.specs.List.{flat_map}
 use Rattle.std.proofs.lemmas.List.{append-nil, take_all, take_more, take-append-drop, drop_more}
 use Rattle.std.proofs.lemmas.List.Concat.{flat_map-append}
-use Rattle.gixobj_fields.proofs.Appends.{appends_prefix_middle}
-use Rattle.gixobj_fields.specs.Streams.{AppendsAll, AppendsPrefix, SinkView}
+use Rattle.gixobj_streams.proofs.Appends.{appends_prefix_middle}
+use Rattle.gixobj_streams.specs.Streams.{AppendsAll, AppendsPrefix, SinkView}
 use Rattle.std.specs.declared.io.Error as io
 
 pub flat_map_take_succ : {X : Type 0} (bytes : X → List ℕ) (items : List X) (i : ℕ) (e : X) → i < length items → e ≡ get_or items i e

@@ -1,8 +1,8 @@
 -- The bytes of one write extend the prefix that was written.
 use Rattle.std.proofs.Common.{◌++◌, ◌∙◌, take}
 use Rattle.std.proofs.lemmas.Result.{err_from_is_err_and}
-use Rattle.gixobj_fields.proofs.Appends.{appends_append, append_take_drop, keeps_nil, rest_nil, rest_len_pos, writer_prefix, writer_appends}
-use Rattle.gixobj_fields.proofs.streams.ToWriteSink.write_bytes.Goals as goal
+use Rattle.gixobj_streams.proofs.Appends.{appends_append, append_take_drop, keeps_nil, rest_nil, rest_len_pos, writer_prefix, writer_appends}
+use Rattle.gixobj_streams.proofs.streams.ToWriteSink.write_bytes.Goals as goal
 
 pub loop-rest-preserved : goal.loop-rest-preserved
 loop-rest-preserved g c =

@@ -1,0 +1,4 @@
+//! Sources and sinks of bytes.
+#![tactic(auto)]
+
+pub mod streams;
