@@ -1,7 +1,10 @@
+mod BuiltTrees
 mod EntryAfterImport
 mod LastReplies
 mod OneOpening
+mod OneTree
 mod OneWrite
 mod PathEntries
 mod RunChanged
 mod SameImports
+mod StoredTrees

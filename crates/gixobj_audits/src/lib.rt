@@ -1,7 +1,9 @@
-//! Audits of runs and imports: what they changed, and what their stores have then. Each is proved by public
-//! contracts and laws alone.
+//! Audits of runs and imports: what they changed, and what their stores have then; of two stores, whether their
+//! roots have the same files. Each is proved by public contracts and laws alone.
 #![tactic(auto)]
 
+pub mod canonical;
 pub mod imports;
 pub mod laws;
+pub mod mirrors;
 pub mod runs;

@@ -10,4 +10,8 @@ mod history;
 #[cfg(test)]
 mod listing;
 #[cfg(test)]
+mod messages;
+#[cfg(test)]
+mod mirrors;
+#[cfg(test)]
 mod samples;

@@ -1,5 +1,6 @@
+pub mod AcceptedSignatures
+pub mod Assembled
 pub mod Copies
 pub mod CopiesById
-pub mod AcceptedSignatures
 pub mod Signers
 pub mod Yielded

@@ -1,6 +1,0 @@
-mod AssembledBlocks
-mod AssembledTitles
-pub mod Assembling
-pub mod CarriageReturns
-pub mod Renaming
-mod Descriptions

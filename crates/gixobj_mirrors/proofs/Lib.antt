@@ -1,3 +1,0 @@
-mod BuiltTrees
-mod OneTree
-mod StoredTrees
