@@ -13,7 +13,7 @@ ghost use Rattle.gixobj_hash.specs.Bytes.{newline, space};
 use bstr::BString;
 use gixobj_hash::hash::ObjectId;
 use gixobj_hash::split::{has_byte, split_at_byte};
-use gixobj_streams::streams::{Sink, write_both};
+use gixobj_streams::streams::Sink;
 use std::alloc::{AllocError, Global};
 use std::io;
 
@@ -234,6 +234,17 @@ pub fn header_field_multi_line<S: Sink>(name: &[u8], value: &[u8], sink: &mut S)
 {
     write_both(name, b" ", sink)?;
     write_folded(value, sink)
+}
+
+/// Appends two byte strings.
+#[inline(always)]
+fn write_both<S: Sink>(first: &[u8], second: &[u8], sink: &mut S) -> io::Result<()>
+    ensures appended { AppendsOrFails result (S.view sink.old) (S.view sink.new) (first.now
+        ++ second.now) }
+    ensures same_loan { S.loan sink.new ≡ S.loan sink.old }
+{
+    sink.write_bytes(first)?;
+    sink.write_bytes(second)
 }
 
 /// Appends the lines of a value.

@@ -19,20 +19,20 @@ content_error (Header header.OutOfMemory) = OutOfMemory
 content_error (Header error) = BadHeader
 content_error (Short size) = ShortData
 
--- a line: its text, and a newline
-abbrev encode_line : List ℕ → List ℕ
-encode_line text = text ++ newline ∷ []
+-- the line of an error: its message and a newline
+abbrev error_line : List ℕ → List ℕ
+error_line message = message ++ newline ∷ []
 
 -- the line for standard error
 abbrev pub line_of : Failure → List ℕ
-line_of Usage = encode_line (codes "usage: gixobj show|tree|edit [sha256]")
-line_of InputFailed = encode_line (codes "gixobj: input failed")
-line_of OutputFailed = encode_line (codes "gixobj: output failed")
-line_of OutOfMemory = encode_line (codes "gixobj: out of memory")
-line_of BadHeader = encode_line (codes "gixobj: bad header")
-line_of ShortData = encode_line (codes "gixobj: short data")
-line_of NotATree = encode_line (codes "gixobj: not a tree")
-line_of BadTree = encode_line (codes "gixobj: bad tree")
+line_of Usage = error_line (codes "usage: gixobj show|tree|edit [sha256]")
+line_of InputFailed = error_line (codes "gixobj: input failed")
+line_of OutputFailed = error_line (codes "gixobj: output failed")
+line_of OutOfMemory = error_line (codes "gixobj: out of memory")
+line_of BadHeader = error_line (codes "gixobj: bad header")
+line_of ShortData = error_line (codes "gixobj: short data")
+line_of NotATree = error_line (codes "gixobj: not a tree")
+line_of BadTree = error_line (codes "gixobj: bad tree")
 
 -- the exit status: 2 if the arguments are invalid, and otherwise 1
 abbrev pub exit_status_of : Failure → ℕ

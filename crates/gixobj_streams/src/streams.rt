@@ -4,7 +4,7 @@
 //! [`Source`] or a [`Sink`] says more. A read of a slice always succeeds. A `Vec` fails only if it has no
 //! room for the bytes. [`FromRead`] and [`ToWrite`] adapt any reader or writer, which may then fail at
 //! every call.
-ghost use Rattle.std.specs.Prelude.{◌≡◌, ◌++◌, ℕ, List, Option, Some, OnErr, ⊤};
+ghost use Rattle.std.specs.Prelude.{◌≡◌, ℕ, List, Option, Some, OnErr, ⊤};
 ghost use Rattle.std.specs.Io.{ReadsAtMost, WritesAtMost};
 ghost use Rattle.std.specs.Io.KnownBytes.{ReadConsumes, WriteAppends};
 ghost use Rattle.std.specs.List.{flat_map};
@@ -169,19 +169,4 @@ pub fn write_parts<S: Sink>(parts: &[&[u8]], sink: &mut S) -> io::Result<()>
         sink.write_bytes(part)?;
     }
     Ok(())
-}
-
-/// Appends two byte strings. Only the sink may allocate.
-///
-/// # Errors
-///
-/// The error of the sink, only if it has no room for both. A proper prefix of both has then been written.
-#[inline(always)]
-pub fn write_both<S: Sink>(first: &[u8], second: &[u8], sink: &mut S) -> io::Result<()>
-    ensures appended { AppendsOrFails result (S.view sink.old) (S.view sink.new) (first.now
-        ++ second.now) }
-    ensures same_loan { S.loan sink.new ≡ S.loan sink.old }
-{
-    sink.write_bytes(first)?;
-    sink.write_bytes(second)
 }

@@ -1,7 +1,7 @@
 -- The append of the first part is a step of the append of both.
 use Rattle.std.proofs.lemmas.Result.{err_from_is_err_and}
 use Rattle.gixobj_streams.proofs.Appends.{appends_or_fails_append, appends_prefix_first}
-use Rattle.gixobj_streams.proofs.streams.write_both.Goals as goal
+use Rattle.gixobj_fields.proofs.encode.write_both.Goals as goal
 
 pub returns-in_err-write_bytes-clause-appended : goal.returns-in_err-write_bytes-clause-appended
 returns-in_err-write_bytes-clause-appended g c =
