@@ -5,6 +5,7 @@
 mod converted;
 #[cfg(test)]
 mod editor;
+pub mod imports;
 #[cfg(test)]
 mod public_paths;
 pub mod samples;

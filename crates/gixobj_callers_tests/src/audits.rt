@@ -5,10 +5,10 @@ use crate::samples::commands_of;
 use gix_object::hash::{Kind, ObjectId};
 use gix_object::tree::editor::{EditReply, Editor, Reply};
 use gix_object::{Memory, Tree, encode};
+use gix_object_tests::imports::samples::{COMMITS, STEPS, are_commits, steps_of};
 use gix_object_tests::samples::{Row, id, path_of};
 use gixobj_audits::imports::{entry_after_import, import_twice};
 use gixobj_audits::runs::{RunChanges, changes_of_run, run_and_reopen};
-use gixobj_import_tests::samples::{COMMITS, STEPS, are_commits, steps_of};
 use gixobj_listings::roots::root_in;
 use std::alloc::Global;
 

@@ -3,9 +3,9 @@
 use gix_object::Memory;
 use gix_object::hash::Kind;
 use gix_object::import::Importer;
+use gix_object_tests::imports::samples::{COMMITS, Outcome, STEPS, StepRow, steps_of};
 use gix_object_tests::samples::id;
 use gixobj_callers::archive::{archive, tip_of};
-use gixobj_import_tests::samples::{COMMITS, Outcome, STEPS, StepRow, steps_of};
 use std::alloc::Global;
 
 /// Id that `git mktree --missing` prints for the root of the last of the three steps.

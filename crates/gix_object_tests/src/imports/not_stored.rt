@@ -1,6 +1,6 @@
 //! Imports in which each call to keep a tree or a commit fails in turn.
 
-use crate::samples::{COMMITS, STEPS, are_first_commits, has_all, import_rows, outcome_by};
+use super::samples::{COMMITS, STEPS, are_first_commits, has_all, import_rows, outcome_by};
 use gix_object::hash::Kind as HashKind;
 use gix_object::import::{ImportError, Importer};
 use gix_object::{KeepError, Memory};

@@ -1,9 +1,9 @@
 //! Steps of imports, and checks that several tests share.
 
+use crate::samples::{Row, id, step_by};
 use gix_object::hash::{Kind as HashKind, ObjectId};
 use gix_object::import::{ImportError, Imported, Importer, Step, import_all};
 use gix_object::{Find, Keep, KeepCommit, Kind, Memory, compute_hash};
-use gix_object_tests::samples::{Row, id, step_by};
 use std::alloc::{AllocError, Global};
 
 /// A step: its author and its edits.

@@ -1,10 +1,10 @@
 //! Each error of a step, and the steps after it.
 
-use crate::samples::{COMMITS, Outcome, STEPS, StepRow, import_rows, importer_of, outcome_by};
+use super::samples::{COMMITS, Outcome, STEPS, StepRow, import_rows, importer_of, outcome_by};
+use crate::samples::Row;
 use gix_object::encode;
 use gix_object::import::ImportError;
 use gix_object::tree::editor::{Error, WriteError};
-use gix_object_tests::samples::Row;
 use std::alloc::Global;
 
 const FILE: &[u8] = b"0101010101010101010101010101010101010101";

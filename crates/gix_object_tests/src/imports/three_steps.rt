@@ -1,13 +1,13 @@
 //! Imports of three steps, with a rejected one and one after it. `git hash-object`, `git mktree` and `git
 //! commit-tree` print the ids, in a repository of either object format.
 
-use crate::samples::{
+use super::samples::{
     COMMITS, Outcome, STEPS, StepRow, import_rows, importer_of, kept_commit, outcome_by,
 };
+use crate::samples::{Row, id};
 use gix_object::Memory;
 use gix_object::hash::Kind as HashKind;
 use gix_object::import::Importer;
-use gix_object_tests::samples::{Row, id};
 use std::alloc::Global;
 
 /// The tree of each step, the number of emitted trees, and the size of the commit.

@@ -1,6 +1,6 @@
 //! Imports of the three steps while an allocation fails, and then all of them by a new importer.
 
-use crate::samples::{
+use super::samples::{
     COMMITS, STEPS, are_first_commits, has_all, import, importer_of, outcome_by, steps_of,
     try_steps_of,
 };

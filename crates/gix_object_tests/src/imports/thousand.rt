@@ -1,7 +1,8 @@
 //! A history of 1,000 steps of three edits, as `git fast-import` makes it. `examples/imports.py` has the rule
 //! of the steps and prints the ids. Each commit names its parent, so that the last id depends on all commits.
 
-use crate::samples::import;
+use super::samples::import;
+use crate::samples::{id, string_of};
 use bstr::BString;
 use gix_object::actor::Signature;
 use gix_object::date::Time;
@@ -10,7 +11,6 @@ use gix_object::import::{Imported, Importer, Step};
 use gix_object::tree::EntryKind;
 use gix_object::tree::editor::Edit;
 use gix_object::{Kind, Memory, compute_hash};
-use gix_object_tests::samples::{id, string_of};
 use std::alloc::{AllocError, Global};
 
 /// A step: its index, its commit and the tree of that.
