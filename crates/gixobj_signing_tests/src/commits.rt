@@ -2,7 +2,7 @@
 
 use crate::calls::{Maker, ScriptedAnswer};
 use crate::objects::{
-    Outcome, Row, after_calls, gpg, has_bytes, is_error_of, is_object, runner_of_row,
+    Outcome, Row, after_calls, has_bytes, is_error_of, is_object, runner_of_row, signing_options,
 };
 use crate::scripted::Played;
 use crate::signing::CREATED;
@@ -183,7 +183,7 @@ fn signed_commit(
     form: Form,
     runner: &mut Played,
 ) -> Result<Commit, Error> {
-    let (alloc, options) = (maker.alloc, gpg(maker, row.key));
+    let (alloc, options) = (maker.alloc, signing_options(maker, row.key));
     let Ok(mut commit) = CommitRef::from_bytes(alloc, row.encoding, row.hash) else {
         return Err(Error::OutOfMemory);
     };

@@ -1,4 +1,5 @@
-//! Helpers for tests of signed commits and tags: `gpg` without further arguments, and the outcomes.
+//! Helpers for tests of signed commits and tags: `gpg` and `ssh-keygen` without further arguments, and the
+//! outcomes.
 
 use crate::calls::{Maker, ScriptedAnswer, Step};
 use crate::scripted::Played;
@@ -7,7 +8,7 @@ use gixobj_fields::{WriteTo, encode};
 use gixobj_hash::decode;
 use gixobj_hash::hash::Kind;
 use gixobj_signature::signature::SignedData;
-use gixobj_signature::signature::sign::{Error, Options};
+use gixobj_signature::signature::sign::{Error, Options, is_literal_ssh_key};
 use gixobj_text::signature::Format;
 use std::alloc::Global;
 
@@ -18,7 +19,7 @@ pub(crate) struct Row<'a> {
     pub(crate) encoding: &'a [u8],
     /// The kind of its ids.
     pub(crate) hash: Kind,
-    /// The name of the key.
+    /// The name of the key, or the literal key `k` of SSH.
     pub(crate) key: &'static [u8],
     /// The input of the one call, and its scripted answer; `None` if no call is made.
     pub(crate) call: Option<(&'a [u8], ScriptedAnswer)>,
@@ -35,11 +36,16 @@ pub(crate) enum Outcome<'a> {
     Error(&'static str),
 }
 
-/// Returns the options of signing by `gpg` with this key.
-pub(crate) fn gpg(maker: &mut Maker, key: &[u8]) -> Options {
+/// Returns the options of signing with this key: by `ssh-keygen` if it is literal, else by `gpg`.
+pub(crate) fn signing_options(maker: &mut Maker, key: &[u8]) -> Options {
+    let (format, program) = if is_literal_ssh_key(key).is_some() {
+        (Format::Ssh, b"ssh-keygen".as_slice())
+    } else {
+        (Format::OpenPgp, b"gpg".as_slice())
+    };
     Options {
-        format: Format::OpenPgp,
-        program: maker.bstring(b"gpg"),
+        format,
+        program: maker.bstring(program),
         program_arguments: Vec::new(maker.alloc),
         signing_key: maker.bstring(key),
         environment: maker.environment(false),
@@ -59,12 +65,32 @@ pub(crate) fn gpg_call(payload: &[u8], answer: ScriptedAnswer) -> Step<'_> {
     }
 }
 
+/// The call that signs by `ssh-keygen` with the literal key `k`, without the file of the payload and an answer.
+const SSH_CALL: &Step<'static> = &Step {
+    program: b"ssh-keygen",
+    arguments: "-Y sign -n git -f @0 -U @1",
+    in_english: false,
+    files: &[b"k"],
+    input: None,
+    result: Some(1),
+    answer: ScriptedAnswer::NoMemory,
+};
+
 /// Returns the runner that expects the call of a row, if it makes one, and no other.
 pub(crate) fn runner_of_row(maker: &mut Maker, row: &Row<'_>) -> Played {
-    match row.call {
-        Some((payload, answer)) => maker.runner(&[gpg_call(payload, answer)]),
-        None => maker.runner(&[]),
+    let Some((payload, answer)) = row.call else {
+        return maker.runner(&[]);
+    };
+    if is_literal_ssh_key(row.key).is_none() {
+        return maker.runner(&[gpg_call(payload, answer)]);
     }
+    let mut call = maker.call(SSH_CALL);
+    let file = maker.bstring(payload);
+    maker.append(&mut call.files, file);
+    let answer = maker.answer(answer);
+    let mut runner = maker.runner(&[]);
+    maker.append(&mut runner.steps, (call, answer));
+    runner
 }
 
 /// Returns the answer, or false if an expected call wasn't made; `None` if memory ran out before it.

@@ -3,7 +3,7 @@
 
 use crate::calls::{Maker, ScriptedAnswer};
 use crate::commits::{Form, Found, PLAIN, SIGNED, is_found, of_commit};
-use crate::objects::{Outcome, Row, gpg, gpg_call};
+use crate::objects::{Outcome, Row, gpg_call, signing_options};
 use crate::signing::CREATED;
 use crate::tags::{is_tag_signature, of_tag};
 use crate::verifying::options_of;
@@ -151,7 +151,7 @@ fn is_outcome_copied(alloc: Global, output: BString) -> bool {
 /// Returns whether a clone of signing options has their key, and one of the OpenPGP verifying options is for
 /// OpenPGP.
 fn are_options_copied(maker: &mut Maker) -> bool {
-    let signing = gpg(maker, b"K");
+    let signing = signing_options(maker, b"K");
     let verifying = options_of(maker, (Format::OpenPgp, TrustLevel::Fully, None));
     let signing: Result<_, _> = signing.clone();
     let verifying: Result<_, _> = verifying.clone();

@@ -2,7 +2,7 @@
 
 use crate::calls::{Maker, ScriptedAnswer};
 use crate::objects::{
-    Outcome, Row, after_calls, gpg, has_bytes, is_error_of, is_object, runner_of_row,
+    Outcome, Row, after_calls, has_bytes, is_error_of, is_object, runner_of_row, signing_options,
 };
 use crate::scripted::Played;
 use crate::signing::CREATED;
@@ -132,6 +132,20 @@ const ROWS: &[Row<'static>] = &[
     Row {
         encoding: NEWLINES,
         hash: Sha1,
+        key: b"key::k",
+        call: Some((PAYLOAD, ScriptedAnswer::Ran(true, b"", b"", Some(PGP)))),
+        outcome: Outcome::Bytes(SIGNED),
+    },
+    Row {
+        encoding: NEWLINES,
+        hash: Sha1,
+        key: b"key::k",
+        call: Some((PAYLOAD, ScriptedAnswer::Ran(true, b"", b"", None))),
+        outcome: Outcome::Error("MissingSshSignature"),
+    },
+    Row {
+        encoding: NEWLINES,
+        hash: Sha1,
         key: b"",
         call: None,
         outcome: Outcome::Error("MissingSigningKey"),
@@ -152,7 +166,7 @@ fn signed_tag(
     is_owned: bool,
     runner: &mut Played,
 ) -> Result<Tag, Error> {
-    let (alloc, options) = (maker.alloc, gpg(maker, row.key));
+    let (alloc, options) = (maker.alloc, signing_options(maker, row.key));
     let Ok(tag) = TagRef::from_bytes(row.encoding, row.hash) else {
         return Err(Error::OutOfMemory);
     };
