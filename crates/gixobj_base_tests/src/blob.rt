@@ -17,6 +17,8 @@ fn converts_between_borrowed_and_owned(rt: HostRuntime) {
     assert!(rt; owned.bytes.extend_from_slice(b" world").is_ok());
     assert!(rt; owned.to_ref().bytes == b"hello world".as_slice());
     assert!(rt; are_ordered(&copy, &owned, Ordering::Less));
+    let empty = owned_blob(rt.alloc(), BlobRef::from_bytes(b""));
+    assert!(rt; are_ordered(&empty, &owned, Ordering::Less));
     assert!(rt; are_ordered(&borrowed, &owned.to_ref(), Ordering::Less));
 }
 

@@ -9,10 +9,10 @@ use gixobj_fields::encode::{
     Error, header_field, header_field_multi_line, size_plus_field, size_plus_id, size_with_hex,
     size_with_multi_line, trusted_header_field, trusted_header_hex, trusted_header_id,
 };
-use gixobj_streams::streams::write_parts;
 use gixobj_hash::hash::{Kind, ObjectId};
 use gixobj_hash::parse::{hex_hash, id_of_hex};
 use gixobj_hash::split::{are_digits, number_from_digits};
+use gixobj_streams::streams::write_parts;
 
 /// The encodings of fields of one line, in the order of the test.
 const LINES: &[u8] = b"ab author A\nencoding UTF-8\n\

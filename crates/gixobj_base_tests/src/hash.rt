@@ -1,4 +1,4 @@
-//! The order and the hash of ids, which borrowed ids share.
+//! The order and the hash of ids. Borrowed ids share their hash and their properties.
 
 use crate::helpers::{are_in_order, hash_of};
 use gixobj_base::hash::{Kind, ObjectId};
@@ -12,6 +12,13 @@ fn ids_compare_and_hash_by_bytes(rt: HostRuntime) {
     let high = ObjectId::empty_blob(Kind::Sha1);
     assert!(rt; are_in_order(&[null, low, almost, middle, high]));
     assert!(rt; middle.as_oid() < high.as_oid());
-    assert!(rt; hash_of(&middle) == hash_of(&middle.as_oid()));
-    assert!(rt; !almost.is_null() && !almost.as_oid().is_null());
+    let (blob, tree) = (
+        ObjectId::empty_blob(Kind::Sha256),
+        ObjectId::empty_tree(Kind::Sha256),
+    );
+    for id in [almost, middle, high, blob, tree] {
+        assert!(rt; hash_of(&id) == hash_of(&id.as_oid()), "{id}");
+        assert!(rt; !id.is_null() && !id.as_oid().is_null(), "{id}");
+        assert!(rt; id.is_empty_tree() == id.as_oid().is_empty_tree(), "{id}");
+    }
 }

@@ -55,7 +55,7 @@ const BLOBS: &[(&[u8], &[u8], &str)] = &[
     ),
 ];
 
-/// Writing a reference writes the object that it refers to.
+/// Writing a reference writes the object that it refers to. Bytes are appended to those written before.
 #[test]
 fn writes_blobs_through_references(rt: HostRuntime) {
     let alloc = rt.alloc();
@@ -72,6 +72,14 @@ fn writes_blobs_through_references(rt: HostRuntime) {
         );
         assert!(rt;
             is_object(alloc, &owned, Kind::Blob, header, content, id),
+            "{id}"
+        );
+        let mut twice = Vec::new(alloc);
+        assert!(rt; owned.write_to(alloc, &mut twice).is_ok(), "{id}");
+        assert!(rt; blob.write_to_vec(alloc, &mut twice).is_ok(), "{id}");
+        assert!(rt; twice.len() == content.len().saturating_add(content.len()));
+        assert!(rt;
+            twice.starts_with(content) && twice.ends_with(content),
             "{id}"
         );
     }
