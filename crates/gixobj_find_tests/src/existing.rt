@@ -144,6 +144,21 @@ fn is_found_alone(alloc: Global, kind: Kind, input: &[u8], is_malformed: bool) -
     true
 }
 
+/// Returns whether the reader of a malformed commit yields one error, and then ends.
+fn yields_one_error(alloc: Global) -> bool {
+    let Ok((store, id)) = store_of(alloc, Kind::Commit, b"tree 4b") else {
+        return false;
+    };
+    let mut buffer = Vec::new(alloc);
+    match store.find_commit_iter(alloc, id.as_oid(), &mut buffer) {
+        Ok(mut reader) => {
+            let first = reader.next();
+            matches!(first, Some(Err(decode::Error::Malformed))) && reader.next().is_none()
+        }
+        Err(_) => false,
+    }
+}
+
 /// An object is decoded by its own kind first, so each lookup that decodes fails for a malformed one. An
 /// iterator is returned regardless.
 #[test]
@@ -153,6 +168,7 @@ fn finds_objects_by_their_kind(rt: HostRuntime) {
         let is_damaged = kind == Kind::Blob || is_found_alone(rt.alloc(), kind, b"tree", true);
         assert!(rt; is_found && is_damaged, "{kind:?}");
     }
+    assert!(rt; yields_one_error(rt.alloc()));
 }
 
 /// The empty tree is found as any object only if the store has it.

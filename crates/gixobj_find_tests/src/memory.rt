@@ -68,6 +68,7 @@ fn is_in_use(alloc: Global, store: &RefCell<Memory>) -> bool {
     }
 }
 
+/// The store has one object for each id.
 #[test]
 fn writes_to_store_in_cell(rt: HostRuntime) {
     let alloc = rt.alloc();
@@ -76,5 +77,14 @@ fn writes_to_store_in_cell(rt: HostRuntime) {
     for call in CALLS {
         assert!(rt; returns_id(alloc, &store, call), "{:?}", call.bytes);
     }
-    assert!(rt; store.into_inner().len() == 5);
+    let mut stream = b"hello\n".as_slice();
+    assert!(rt; is_id(store.write(alloc, &Tree::empty(alloc)), id(EMPTY_TREE)));
+    assert!(rt; is_id(store.write_buf(alloc, Kind::Blob, b"hello\n"), id(HELLO)));
+    assert!(rt;
+        is_id(
+            store.write_stream(alloc, Kind::Blob, 6, &mut stream),
+            id(HELLO)
+        )
+    );
+    assert!(rt; store.into_inner().len() == 7);
 }

@@ -25,6 +25,7 @@ fn returns_ids(rt: HostRuntime) {
     }
 }
 
+/// The last stream is of no bytes, and the id is that of an object of the stated kind.
 #[test]
 fn reads_no_byte_after_size(rt: HostRuntime) {
     let (alloc, known) = (rt.alloc(), id_of_bytes(1));
@@ -33,6 +34,9 @@ fn reads_no_byte_after_size(rt: HostRuntime) {
     assert!(rt; is_id(answer, id(HELLO)) && stream == b"hello\nrest".as_slice());
     let answer = Never.write_stream_with_known_id(alloc, Kind::Blob, 6, &mut stream, known);
     assert!(rt; is_id(answer, known) && stream == b"rest".as_slice());
+    let empty_tree = ObjectId::empty_tree(HashKind::Sha1);
+    let answer = Never.write_stream(alloc, Kind::Tree, 0, &mut stream);
+    assert!(rt; is_id(answer, empty_tree) && stream == b"rest".as_slice());
 }
 
 /// Returns whether a stream of a known id fails with the error for its reader, which fails or ends after

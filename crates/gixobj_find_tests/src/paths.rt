@@ -200,7 +200,7 @@ const FILE_PATH: &[u8] = b"top/bak/test.txt";
 const FAILURES: &[(&'static [u64], u64)] = &[(&[1, 2], 1), (&[2, 4], 2)];
 
 /// The path `top` needs no lookup. A lookup by names and then one by a path fail with the message of the store,
-/// each after `count` lookups in it. The next ones find the file.
+/// each after `count` lookups in it. The next ones find the file, by two lookups each.
 #[test]
 fn returns_message_of_store_that_fails_on_path(rt: HostRuntime) {
     let alloc = rt.alloc();
@@ -214,10 +214,13 @@ fn returns_message_of_store_that_fails_on_path(rt: HostRuntime) {
         assert!(rt; store.lookups() == count);
         let by_path = at_path(alloc, &store, TOP, FILE_PATH, "test.txt");
         assert!(rt; by_path == Answer::Offline, "{count}");
-        assert!(rt; store.lookups() == count.saturating_add(count));
+        let failed = store.lookups();
+        assert!(rt; failed == count.saturating_add(count));
         assert!(rt; at_names(alloc, &store, TOP, FILE_NAMES) == file);
+        assert!(rt; store.lookups() == failed.saturating_add(2));
         let by_path = at_path(alloc, &store, TOP, FILE_PATH, "test.txt");
         assert!(rt; by_path == file, "{count}");
+        assert!(rt; store.lookups() == failed.saturating_add(4));
     }
 }
 
