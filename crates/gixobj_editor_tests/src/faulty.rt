@@ -1,4 +1,4 @@
-//! A store in memory in which the lookups of two ids fail.
+//! A store in memory that counts its lookups, and in which those of two ids fail.
 ghost use Rattle.gixobj_keep.specs.Memory.{memory_objects};
 
 use bstr::BString;
@@ -6,6 +6,7 @@ use gixobj_base::hash::{ObjectId, oid};
 use gixobj_keep::Memory;
 use gixobj_store::{Data, Find, Store, find};
 use std::alloc::Global;
+use std::cell::Cell;
 
 /// The id whose lookup fails with the message [`MESSAGE`].
 pub(crate) const UNREADABLE: ObjectId = ObjectId::Sha1([4; 20]);
@@ -23,6 +24,8 @@ pub(crate) struct Faulty {
     pub(crate) alloc: Global,
     /// The objects of the other ids.
     pub(crate) objects: Memory,
+    /// The number of lookups, failed ones included.
+    pub(crate) lookups: Cell<u64>,
 }
 
 /// Every lookup may fail.
@@ -40,6 +43,7 @@ impl Find for Faulty {
         id: oid<'_>,
         buffer: &'a mut Vec<u8>,
     ) -> Result<Option<Data<'a>>, find::Error> {
+        self.lookups.set(self.lookups.get().saturating_add(1));
         let wanted = id.to_owned();
         if wanted == UNREADABLE {
             return Err(find::Error::Store(BString::from_slice(self.alloc, MESSAGE)?));

@@ -4,8 +4,8 @@
 use crate::entries::{Got, gets_all, gets_all_by};
 use crate::faulty::{Faulty, MESSAGE, TOO_LARGE, UNREADABLE};
 use crate::samples::{
-    FILE, TREE_OF_B, cursor_of, inserts_directory, path_of, removed, stored, tree_of, upserted_by,
-    writes,
+    FILE, TREE_OF_B, cursor_of, inserts_directory, path_of, removed, stored, tree_of, upserted,
+    upserted_by, writes,
 };
 use gixobj_base::hash::{Kind as HashKind, ObjectId};
 use gixobj_base::tree::EntryKind;
@@ -15,6 +15,7 @@ use gixobj_keep::Memory;
 use gixobj_keep::find::existing_object;
 use gixobj_store::find;
 use std::alloc::Global;
+use std::cell::Cell;
 
 /// An id that the store lacks.
 const UNKNOWN: ObjectId = ObjectId::Sha1([3; 20]);
@@ -48,7 +49,12 @@ fn stored_directories(alloc: Global, store: &mut Memory) -> Option<ObjectId> {
 fn with_open_directory(alloc: Global) -> Editor<Faulty> {
     let mut objects = Memory::new(alloc);
     let id = stored_directories(alloc, &mut objects);
-    let store = Faulty { alloc, objects };
+    let lookups = Cell::new(0);
+    let store = Faulty {
+        alloc,
+        objects,
+        lookups,
+    };
     let mut editor = Editor::new(Tree::empty(alloc), store, HashKind::Sha1);
     let _ = inserts_directory(alloc, &mut editor, b"d", id.unwrap_or(UNKNOWN))
         && cursor_of(alloc, &mut editor, b"d").is_ok();
@@ -183,7 +189,8 @@ fn is_leaf_removed(alloc: Global, editor: &mut Editor<Faulty>) -> bool {
     }
 }
 
-/// No failed edit changes the editor, nor does a cursor that isn't made. Then a leaf is removed.
+/// No failed edit changes the editor, nor does a cursor that isn't made. Then a leaf is removed. The editor counts
+/// the lookups of the store.
 #[test]
 fn editor_is_unchanged_after_failed_edits(rt: HostRuntime) {
     let mut editor = with_open_directory(rt.alloc());
@@ -191,10 +198,14 @@ fn editor_is_unchanged_after_failed_edits(rt: HostRuntime) {
     for row in ROWS {
         assert!(rt; is_failed(rt.alloc(), &mut editor, row), "{row:?}");
     }
+    let lookups = editor.lookups();
+    assert!(rt; upserted(rt.alloc(), &mut editor, b"a/b") == 2);
     assert!(rt; matches!(cursor_of(rt.alloc(), &mut editor, b"d u x/y"), Err(2)));
+    assert!(rt; editor.lookups() == lookups);
     assert!(rt; writes(rt.alloc(), &mut editor, 1, &[ROOT]));
     assert!(rt; is_leaf_removed(rt.alloc(), &mut editor));
     assert!(rt; writes(rt.alloc(), &mut editor, 0, WITHOUT_A));
+    assert!(rt; editor.lookups() == editor.store_mut().lookups.get());
 }
 
 /// Makes the call of a row by a cursor at the directory `d`, and returns whether it fails so.

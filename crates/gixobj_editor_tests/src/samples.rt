@@ -202,7 +202,7 @@ fn are_named(alloc: Global, trees: &[(ObjectId, Tree)], ids: &[&[u8]]) -> bool {
 
 /// Returns whether trees of these ids were emitted in this order, the last has the id of the write, and
 /// `saved` unchanged directories were counted.
-fn has_emitted(alloc: Global, written: &Written, saved: usize, ids: &[&[u8]]) -> bool {
+pub(crate) fn has_emitted(alloc: Global, written: &Written, saved: usize, ids: &[&[u8]]) -> bool {
     let is_last = match written.trees.last() {
         Some((id, _)) => *id == written.id,
         None => false,

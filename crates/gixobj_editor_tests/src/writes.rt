@@ -3,8 +3,8 @@
 
 use crate::entries::{Got, gets_all};
 use crate::samples::{
-    FILE, NULL, TREE_OF_B, are_upserted, cursor_of, empty_editor, inserts_directory, removed,
-    upserted, writes,
+    FILE, NULL, TREE_OF_B, are_upserted, cursor_of, empty_editor, has_emitted, inserts_directory,
+    removed, upserted, writes,
 };
 use gixobj_base::hash::{Kind as HashKind, ObjectId};
 use gixobj_base::tree::EntryKind;
@@ -63,7 +63,8 @@ fn failed_out(rt: HostRuntime) {
     let mut editor = empty_editor(alloc);
     assert!(rt; are_upserted(alloc, &mut editor, &[b"a x", b"b y"]));
     assert!(rt; stops_at(alloc, &mut editor, 2, ALL_THREE));
-    assert!(rt; writes(alloc, &mut editor, 0, ALL_THREE));
+    let written = editor.try_write(&mut |tree: &Tree| tree.compute_id(alloc, HashKind::Sha1));
+    assert!(rt; matches!(&written, Ok(it) if has_emitted(alloc, it, 0, ALL_THREE)));
 }
 
 /// The ids of the trees of the directories `a` with the file `x`, `b` with `y`, `c/d` with `z` and `c`, and of
