@@ -84,16 +84,23 @@ fn does_other_edits_in_directory(rt: HostRuntime) {
     }
 }
 
-/// Commands that insert a file, set a root with an empty name, and write the root.
-fn malformed_root(alloc: Global) -> Result<Vec<Command>, AllocError> {
-    let entry = Entry {
-        mode: EntryKind::Blob.into(),
-        filename: BString::from_slice(alloc, b"")?,
-        oid: FILE,
-    };
-    let entries = vec![in alloc; entry]?;
+/// Names of files in roots that aren't well-formed: an empty one, and one twice.
+const MALFORMED: &[&[&[u8]]] = &[&[b""], &[b"g", b"g"]];
+
+/// Commands that insert a file, set a root of files of these names, and write the root.
+fn with_root_of(alloc: Global, names: &[&[u8]]) -> Result<Vec<Command>, AllocError> {
+    let mut root = Tree::empty(alloc);
+    for name in names {
+        let filename = BString::from_slice(alloc, name)?;
+        let (mode, oid) = (EntryKind::Blob.into(), FILE);
+        root.entries.push(Entry {
+            mode,
+            filename,
+            oid,
+        })?;
+    }
     let insertion = Command::Edit(insertion_of(alloc, b"f")?);
-    let set = Command::SetRoot(Tree { entries });
+    let set = Command::SetRoot(root);
     Ok(vec![in alloc; insertion, set, Command::Edit(Edit::Write)]?)
 }
 
@@ -103,5 +110,8 @@ const REJECTED: &str =
 
 #[test]
 fn keeps_root_if_new_one_is_malformed(rt: HostRuntime) {
-    assert!(rt; has_report(rt.alloc(), malformed_root(rt.alloc()), REJECTED));
+    for names in MALFORMED {
+        let commands = with_root_of(rt.alloc(), names);
+        assert!(rt; has_report(rt.alloc(), commands, REJECTED), "{names:?}");
+    }
 }
