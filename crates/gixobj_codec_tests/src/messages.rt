@@ -48,6 +48,14 @@ fn filters_are_right(alloc: Global, commit: &CommitRef<'_>) -> bool {
 fn filters_yield_trailers_of_their_names(rt: HostRuntime) {
     let commit = read(rt.alloc(), ATTRIBUTED);
     assert!(rt; holds!(&commit, Ok(it) => filters_are_right(rt.alloc(), it)));
+    let (title, summary) = (BStr::new(b"title\nmore"), b"title more".as_slice());
+    assert!(rt; holds!(&commit, Ok(it) => it.message().title == title));
+    assert!(rt;
+        holds!(
+            &commit,
+            Ok(it) => holds!(it.message_summary(rt.alloc()), Ok(it) => it.as_slice() == summary)
+        )
+    );
 }
 
 /// Returns whether the item is a trailer with the token `A` and the value `1 2`.

@@ -18,6 +18,9 @@ const WITH_HEADER: &[u8] = b"tree 4b825dc642cb6eb9a060e54bf8d69288fbee4904\n\
 
 /// Commits in ascending order. Each is greater in an earlier field than the one before it.
 const COMMITS: &[&[u8]] = &[
+    b"tree 4b825dc642cb6eb9a060e54bf8d69288fbee4904\n\
+    author A <a@b> 0 +0000\ncommitter A <a@b> 0 +0000\n\
+    x A\n\nhi",
     PLAIN,
     WITH_HEADER,
     b"tree 4b825dc642cb6eb9a060e54bf8d69288fbee4904\n\
@@ -59,7 +62,7 @@ fn commits_compare_by_fields_in_order(rt: HostRuntime) {
 #[test]
 fn to_owned_equals_into_owned(rt: HostRuntime) {
     let (commits, commit) = (owned(rt.alloc()), owned_form(rt.alloc(), PLAIN));
-    assert!(rt; holds!((&commits, &commit), (Ok(commits), Ok(it)) => commits.first() == Some(it)));
+    assert!(rt; holds!((&commits, &commit), (Ok(commits), Ok(it)) => commits.get(1) == Some(it)));
 }
 
 /// Returns the decoded commit with a header, and an owned copy of the header's value.
@@ -99,6 +102,8 @@ fn tokens(alloc: Global) -> Result<Vec<Token<'static>>, Error> {
 fn tokens_of_commit_ascend(rt: HostRuntime) {
     let tokens = tokens(rt.alloc());
     assert!(rt; holds!(&tokens, Ok(it) => it.len() == 6 && are_copied(it) && are_in_order(it)));
+    let last = Token::Message(BStr::new(b"hi\n"));
+    assert!(rt; holds!(&tokens, Ok(it) => it.last() == Some(&last)));
 }
 
 /// Returns whether a token has an id if and only if it is a tree.

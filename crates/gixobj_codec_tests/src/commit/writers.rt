@@ -32,6 +32,8 @@ fn reencodes_thousand_parents_and_headers(rt: HostRuntime) {
     assert!(rt; bytes.len() == 55_099);
     assert!(rt; both_forms_reencode(rt.alloc(), bytes));
     assert!(rt; CommitRefIter::from_bytes(rt.alloc(), bytes, Kind::Sha1).count() == 2004);
+    let decoded = CommitRef::from_bytes(rt.alloc(), bytes, Kind::Sha1);
+    assert!(rt; holds!(decoded, Ok(it) => it.parents().count() == 1000));
 }
 
 /// The plain commit with a parent of each kind of ids, both null.

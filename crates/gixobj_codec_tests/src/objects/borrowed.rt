@@ -3,17 +3,23 @@
 use super::is_kept;
 use super::samples::read;
 use crate::helpers::holds;
-use gixobj_base::{BlobRef, Kind};
+use gixobj_base::{BlobRef, Kind, WriteTo};
 use gixobj_codec::{CommitRef, ObjectRef, TagRef, TreeRef};
 use std::alloc::Global;
 
-/// Returns whether the getter for this kind returns the object's part.
+/// Returns whether the getter for this kind returns the object's part, which has this kind.
 fn is_lent(object: &ObjectRef<'_>, wanted: Kind) -> bool {
-    match wanted {
-        Kind::Tree => object.as_tree().is_some(),
-        Kind::Blob => object.as_blob().is_some(),
-        Kind::Commit => object.as_commit().is_some(),
-        Kind::Tag => object.as_tag().is_some(),
+    match (wanted, object) {
+        (Kind::Tree, ObjectRef::Tree(it)) => object.as_tree() == Some(it) && it.kind() == wanted,
+        (Kind::Blob, ObjectRef::Blob(it)) => object.as_blob() == Some(it) && it.kind() == wanted,
+        (Kind::Commit, ObjectRef::Commit(it)) => {
+            object.as_commit() == Some(it) && it.kind() == wanted
+        }
+        (Kind::Tag, ObjectRef::Tag(it)) => object.as_tag() == Some(it) && it.kind() == wanted,
+        (Kind::Tree, _) => object.as_tree().is_some(),
+        (Kind::Blob, _) => object.as_blob().is_some(),
+        (Kind::Commit, _) => object.as_commit().is_some(),
+        (Kind::Tag, _) => object.as_tag().is_some(),
     }
 }
 

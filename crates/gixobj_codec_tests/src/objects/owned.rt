@@ -3,17 +3,25 @@
 use super::is_kept;
 use super::samples::{owned, owned_again};
 use crate::helpers::holds;
-use gixobj_base::{Blob, Kind, Tree};
+use gixobj_base::{Blob, Kind, Tree, WriteTo};
 use gixobj_codec::{Commit, Object, Tag};
 use std::alloc::Global;
 
-/// Returns whether the getter for this kind returns the object's part.
+/// Returns whether the getters for this kind return the object's part, which has this kind.
 fn is_lent(object: &Object, wanted: Kind) -> bool {
-    match wanted {
-        Kind::Tree => object.as_tree().is_some(),
-        Kind::Blob => object.as_blob().is_some() && object.try_into_blob_ref().is_some(),
-        Kind::Commit => object.as_commit().is_some(),
-        Kind::Tag => object.as_tag().is_some(),
+    match (wanted, object) {
+        (Kind::Tree, Object::Tree(it)) => object.as_tree() == Some(it) && it.kind() == wanted,
+        (Kind::Blob, Object::Blob(it)) => {
+            object.as_blob() == Some(it)
+                && object.try_into_blob_ref() == Some(it.to_ref())
+                && it.kind() == wanted
+        }
+        (Kind::Commit, Object::Commit(it)) => object.as_commit() == Some(it) && it.kind() == wanted,
+        (Kind::Tag, Object::Tag(it)) => object.as_tag() == Some(it) && it.kind() == wanted,
+        (Kind::Tree, _) => object.as_tree().is_some(),
+        (Kind::Blob, _) => object.as_blob().is_some() || object.try_into_blob_ref().is_some(),
+        (Kind::Commit, _) => object.as_commit().is_some(),
+        (Kind::Tag, _) => object.as_tag().is_some(),
     }
 }
 

@@ -3,8 +3,8 @@
 use super::EXAMPLE;
 use crate::helpers::holds;
 use gixobj_base::hash::Kind;
-use gixobj_codec::TreeRefIter;
 use gixobj_codec::laws::remaining_bytes_are_suffix;
+use gixobj_codec::{TreeRef, TreeRefIter};
 use std::alloc::{AllocError, Global};
 
 /// Returns the offsets of the next entry: at first, and after each yielded entry or error.
@@ -43,12 +43,21 @@ fn offset_follows_each_entry_and_error(rt: HostRuntime) {
     }
 }
 
-/// A reader of the bytes from an offset yields the entries that remain.
+/// A reader of the bytes from an offset yields the entries that remain. A copy of it keeps its position.
 #[test]
 fn resumes_from_each_offset(rt: HostRuntime) {
+    let tree = TreeRef::from_bytes(rt.alloc(), EXAMPLE, Kind::Sha1);
     for (at, offset) in OFFSETS.iter().enumerate() {
         let rest = EXAMPLE.get(*offset..).unwrap_or(b"");
-        let count = TreeRefIter::from_bytes(rest, Kind::Sha1).count();
-        assert!(rt; count.saturating_add(at) == 6, "{offset}");
+        let mut seen = TreeRefIter::from_bytes(rest, Kind::Sha1);
+        let copy = seen;
+        assert!(rt; seen.next().is_some() == (at < 6), "{offset}");
+        assert!(rt; seen.count() == 5usize.saturating_sub(at), "{offset}");
+        assert!(rt; copy.count() == 6usize.saturating_sub(at), "{offset}");
+        let entries = copy.entries(rt.alloc());
+        assert!(rt;
+            holds!((&tree, &entries), (Ok(tree), Ok(it)) => tree.entries.get(at..) == Some(it.as_slice())),
+            "{offset}"
+        );
     }
 }
