@@ -52,6 +52,9 @@ const MERGE_BYTES: &[u8] = b"tree 3c4e9cd789d88d8d89c1073707c3585e41b0e614\n\
     committer A <a@b> 0 +0000\n\
     \nMerge the\nside\n\nBody.\n";
 
+/// Id that `git hash-object` prints for `hello` and a newline.
+const HELLO: &[u8] = b"ce013625030ba8dba906f756967f9e9ca394464a";
+
 /// Id that `git rev-parse` prints for `bak/test.txt` in the second commit.
 const VERSION_1: &[u8] = b"83baae61804e65cc73a7201a7252750c76066a30";
 
@@ -59,24 +62,28 @@ fn object(hex: &[u8], kind: Kind, bytes: &'static [u8]) -> (ObjectId, Data<'stat
     (id(hex), Data::new(bytes, kind, HashKind::Sha1))
 }
 
-/// The merge, the second commit, the first, and both trees, with their ids.
-fn objects() -> [(ObjectId, Data<'static>); 5] {
+/// The merge, the second commit, the first, both trees, and a blob, with their ids.
+fn objects() -> [(ObjectId, Data<'static>); 6] {
     [
         object(MERGE, Kind::Commit, MERGE_BYTES),
         object(SECOND, Kind::Commit, SECOND_BYTES),
         object(FIRST, Kind::Commit, FIRST_BYTES),
         object(BAK, Kind::Tree, BAK_BYTES),
         object(ROOT, Kind::Tree, ROOT_BYTES),
+        object(HELLO, Kind::Blob, b"hello\n"),
     ]
 }
 
 #[test]
-fn finds_object_on_shelf(rt: HostRuntime) {
-    let (objects, bak) = (objects(), id(BAK));
+fn finds_objects_on_shelf(rt: HostRuntime) {
+    let objects = objects();
     let store = Shelf { objects: &objects };
-    let header = store.try_header(bak.as_oid());
-    assert!(rt; matches!(&header, Ok(Some(it)) if it.kind == Kind::Tree && it.size == 36));
-    assert!(rt; store.exists(bak.as_oid()));
+    let tree = store.try_header(id(BAK).as_oid());
+    assert!(rt; matches!(&tree, Ok(Some(it)) if it.kind == Kind::Tree && it.size == 36));
+    assert!(rt; store.exists(id(BAK).as_oid()));
+    let blob = store.try_header(id(HELLO).as_oid());
+    assert!(rt; matches!(&blob, Ok(Some(it)) if it.kind == Kind::Blob && it.size == 6));
+    assert!(rt; store.exists(id(HELLO).as_oid()));
     assert!(rt; !store.exists(ObjectId::empty_blob(HashKind::Sha1).as_oid()));
 }
 

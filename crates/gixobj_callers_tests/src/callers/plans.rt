@@ -2,10 +2,11 @@
 
 use super::{FIRST, SECOND};
 use crate::samples::is_root;
+use gix_object::find::Never;
 use gix_object::hash::{Kind as HashKind, ObjectId};
 use gix_object::tree::EntryKind;
 use gix_object::tree::editor::{Error, WriteError, Written};
-use gix_object::{Kind, Memory, Tree, WriteTo, encode};
+use gix_object::{Find, Kind, Memory, Tree, WriteTo, encode};
 use gix_object_tests::samples::{id, path_of, tree_of};
 use gixobj_callers::planner::{PlanError, RootError, with_entry_in_stored};
 use std::alloc::Global;
@@ -56,12 +57,16 @@ const AT_THE_ROOT: &[u8] = b"fa0919f1e8adc1e676ab04434a2d7f5842aeed3e";
 /// Id that `git mktree --missing` prints for the file `x` with the second id alone.
 const X_ALONE: &[u8] = b"5805b676e247eb9a8046ad0c4d249cd2fb2513df";
 
+/// Id that `git mktree --missing` prints for the file `hello.txt` with the first id alone.
+const HELLO_ALONE: &[u8] = b"aaa96ced2d9a1c8e72c56b253a0e2fe78393feb7";
+
 /// Names the result of a plan.
 fn outcome_name(planned: &Result<Written, PlanError<encode::Error>>) -> &'static str {
     match planned {
         Ok(written) if is_root(written, IN_DIRECTORY, 2) => "in the directory",
         Ok(written) if is_root(written, AT_THE_ROOT, 1) => "at the root",
         Ok(written) if is_root(written, X_ALONE, 1) => "alone",
+        Ok(written) if is_root(written, HELLO_ALONE, 1) => "hello alone",
         Err(PlanError::Root(RootError::Find(_))) => "no root",
         Err(PlanError::Root(RootError::Malformed)) => "malformed root",
         Err(PlanError::Edit(Error::EmptyPathComponent)) => "empty name",
@@ -70,10 +75,15 @@ fn outcome_name(planned: &Result<Written, PlanError<encode::Error>>) -> &'static
     }
 }
 
-/// Names the result of an insertion of a file with the second id into the root of a store.
-fn outcome(alloc: Global, stored: (Memory, ObjectId), names: &[&str]) -> &'static str {
+/// Names the result of an insertion of a file into the root of a store.
+fn outcome<S: Find + Drop>(
+    alloc: Global,
+    stored: (S, ObjectId),
+    names: &[&str],
+    file: &[u8],
+) -> &'static str {
     let (store, root) = stored;
-    let (path, file) = (path_of(alloc, names), id(SECOND));
+    let (path, file) = (path_of(alloc, names), id(file));
     let out = |tree: &Tree| tree.compute_id(alloc, HashKind::Sha1);
     let kind = EntryKind::Blob;
     outcome_name(&with_entry_in_stored(alloc, root, store, &path, kind, file, out))
@@ -83,17 +93,19 @@ fn outcome(alloc: Global, stored: (Memory, ObjectId), names: &[&str]) -> &'stati
 fn inserts_file_into_stored_and_empty_trees(rt: HostRuntime) {
     let alloc = rt.alloc();
     let empty = ObjectId::empty_tree(HashKind::Sha1);
-    assert!(rt; outcome(alloc, stored(alloc, &["b", "a"]), &["a", "x"]) == "in the directory");
-    assert!(rt; outcome(alloc, stored(alloc, &["b", "a"]), &["x"]) == "at the root");
-    assert!(rt; outcome(alloc, (Memory::new(alloc), empty), &["x"]) == "alone");
+    let below = outcome(alloc, stored(alloc, &["b", "a"]), &["a", "x"], SECOND);
+    assert!(rt; below == "in the directory");
+    assert!(rt; outcome(alloc, stored(alloc, &["b", "a"]), &["x"], SECOND) == "at the root");
+    assert!(rt; outcome(alloc, (Never, empty), &["x"], SECOND) == "alone");
+    assert!(rt; outcome(alloc, (Never, empty), &["hello.txt"], FIRST) == "hello alone");
 }
 
 #[test]
 fn rejects_invalid_roots_and_names(rt: HostRuntime) {
     let alloc = rt.alloc();
     let null = ObjectId::null(HashKind::Sha1);
-    assert!(rt; outcome(alloc, (Memory::new(alloc), null), &["x"]) == "no root");
-    assert!(rt; outcome(alloc, stored(alloc, &["a/b"]), &["x"]) == "malformed root");
-    assert!(rt; outcome(alloc, stored(alloc, &["b"]), &["x", ""]) == "empty name");
-    assert!(rt; outcome(alloc, stored(alloc, &["b"]), &["\0"]) == "not written");
+    assert!(rt; outcome(alloc, (Never, null), &["x"], SECOND) == "no root");
+    assert!(rt; outcome(alloc, stored(alloc, &["a/b"]), &["x"], SECOND) == "malformed root");
+    assert!(rt; outcome(alloc, stored(alloc, &["b"]), &["x", ""], SECOND) == "empty name");
+    assert!(rt; outcome(alloc, stored(alloc, &["b"]), &["\0"], SECOND) == "not written");
 }
