@@ -7,10 +7,10 @@
 //! - `gixobj edit [sha256]` runs a script of edits on an empty tree, and reports the outcome of each.
 #![tactic(auto)]
 
-use gixobj_streams::streams::ToWrite;
 use gixobj_script::engine::engine;
 use gixobj_show::arguments::process_arguments;
 use gixobj_show::engine::report_to;
+use gixobj_streams::streams::ToWrite;
 use std::process::ExitCode;
 
 fn main(rt: HostRuntime) -> ExitCode {

@@ -7,8 +7,8 @@ ghost use Rattle.gixobj_show.specs.Arguments.{IsOtherCommand};
 ghost use Rattle.gixobj_show.specs.Engine.{Answered, IsReportedError};
 
 use crate::tree::{list, list_read};
-use gixobj_streams::streams::{Sink, Source};
 use gixobj_show::arguments::requested_hash;
+use gixobj_streams::streams::{Sink, Source};
 use std::alloc::Global;
 use std::io::{Read, Write};
 

@@ -10,12 +10,12 @@ ghost use Rattle.gixobj_show.specs.Arguments.{IsCommandOfHash};
 ghost use Rattle.gixobj_entries.specs.EntryViews.{entry_view};
 ghost use Rattle.gixobj_tree.specs.TreeViews.{tree_entries};
 
-use gixobj_streams::streams::{FromRead, Sink, Source, ToWrite};
 use gixobj_hash::decode::{Error, loose_content};
 use gixobj_hash::{Kind, hash};
 use gixobj_show::Failure;
 use gixobj_show::engine::report_to;
 use gixobj_show::input::read_all;
+use gixobj_streams::streams::{FromRead, Sink, Source, ToWrite};
 use gixobj_tree::TreeRef;
 use gixobj_tree::tree::EntryRef;
 use std::alloc::{AllocError, Global};

@@ -2,10 +2,10 @@
 //! this program builds faster.
 #![tactic(auto)]
 
-use gixobj_streams::streams::ToWrite;
 use gixobj_list::engine::engine;
 use gixobj_show::arguments::process_arguments;
 use gixobj_show::engine::report_to;
+use gixobj_streams::streams::ToWrite;
 use std::process::ExitCode;
 
 fn main(rt: HostRuntime) -> ExitCode {

@@ -2,9 +2,9 @@
 //! so it builds fast.
 #![tactic(auto)]
 
-use gixobj_streams::streams::ToWrite;
 use gixobj_show::arguments::process_arguments;
 use gixobj_show::engine::{engine, report_to};
+use gixobj_streams::streams::ToWrite;
 use std::process::ExitCode;
 
 fn main(rt: HostRuntime) -> ExitCode {

@@ -10,11 +10,11 @@ ghost use Rattle.gixobj_show.specs.Arguments.{IsCommandOfHash};
 
 use crate::editing::edit;
 use crate::fault::{Fault, report_fault};
-use gixobj_streams::streams::{FromRead, Sink, Source, ToWrite};
 use gixobj_hash::hash;
 use gixobj_show::Failure;
 use gixobj_show::arguments::requested_hash;
 use gixobj_show::input::read_all;
+use gixobj_streams::streams::{FromRead, Sink, Source, ToWrite};
 use std::alloc::Global;
 use std::io::{Read, Write};
 

@@ -4,9 +4,9 @@ ghost use Rattle.gixobj_script.specs.Faults.{bad_line, fault_line, fault_status}
 ghost use Rattle.gixobj_show.specs.Engine.{IsPrinted};
 
 use crate::ScriptError;
-use gixobj_streams::streams::Sink;
 use gixobj_show::Failure;
 use gixobj_show::engine::report_to;
+use gixobj_streams::streams::Sink;
 use itoa::Buffer;
 use smallvec::SmallVec;
 use std::alloc::Global;

@@ -2,8 +2,8 @@
 ghost use Rattle.std.specs.Prelude.{◌≡◌};
 ghost use Rattle.gixobj_show.specs.Failure.{line_of, exit_status_of};
 
-use gixobj_streams::streams::Sink;
 use gixobj_hash::decode::{LooseContentError, LooseHeaderDecodeError};
+use gixobj_streams::streams::Sink;
 
 /// The error of a command, such as [`show`](crate::show::show). [`report_to`](crate::engine::report_to)
 /// reports it.

@@ -1,9 +1,9 @@
 //! Blobs, which are the contents of files.
 ghost use Rattle.std.specs.Prelude.{◌≡◌, IfOk};
 
-use gixobj_streams::streams::Sink;
 use gixobj_fields::{WriteTo, encode};
 use gixobj_hash::{Kind, OutOfMemory};
+use gixobj_streams::streams::Sink;
 use std::alloc::Global;
 
 /// The content of a file, borrowed. [`BlobRef::from_bytes`] makes one.

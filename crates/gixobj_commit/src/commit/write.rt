@@ -21,9 +21,9 @@ use gixobj_fields::encode::{
     Error, header_field, header_field_multi_line, size_plus_field, size_plus_id, size_with_hex,
     size_with_multi_line, trusted_header_field, trusted_header_hex, trusted_header_id,
 };
-use gixobj_streams::streams::{Sink, write_parts};
 use gixobj_hash::Kind;
 use gixobj_hash::hash::ObjectId;
+use gixobj_streams::streams::{Sink, write_parts};
 use std::alloc::Global;
 use std::borrow::CowSlice;
 use std::io;

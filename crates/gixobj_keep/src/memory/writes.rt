@@ -11,9 +11,9 @@ use super::content::read_content;
 use super::{Memory, Stored};
 use crate::write::Error;
 use gixobj_fields::WriteTo;
-use gixobj_streams::streams::FromRead;
 use gixobj_hash::hash::ObjectId;
 use gixobj_hash::{Kind, compute_hash, hash};
+use gixobj_streams::streams::FromRead;
 use std::io::Read;
 
 /// Writes

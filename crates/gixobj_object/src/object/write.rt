@@ -3,8 +3,8 @@
 use super::Object;
 use gixobj_fields::WriteTo;
 use gixobj_fields::encode::Error;
-use gixobj_streams::streams::Sink;
 use gixobj_hash::Kind;
+use gixobj_streams::streams::Sink;
 use std::alloc::Global;
 
 /// Encodes the tree, blob, commit or tag of the object. Allocates what that part allocates.

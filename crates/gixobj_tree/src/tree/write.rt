@@ -17,11 +17,11 @@ use super::{Entry, EntryMode, EntryRef, Tree};
 use bstr::BString;
 use gixobj_fields::WriteTo;
 use gixobj_fields::encode::Error;
-use gixobj_streams::streams::{Sink, write_parts};
 use gixobj_hash::Kind;
 use gixobj_hash::hash::{self, ObjectId, oid};
 use gixobj_hash::split::has_byte;
 use gixobj_mode::{encode_kind, encoded_len};
+use gixobj_streams::streams::{Sink, write_parts};
 use std::alloc::Global;
 use std::io;
 

@@ -5,8 +5,8 @@ ghost use Rattle.gixobj_object.specs.BorrowedObjects.{IsReadyToWrite, encode_bor
 use super::ObjectRef;
 use gixobj_fields::WriteTo;
 use gixobj_fields::encode::Error;
-use gixobj_streams::streams::Sink;
 use gixobj_hash::Kind;
+use gixobj_streams::streams::Sink;
 use std::alloc::Global;
 
 /// Encodes the tree, blob, commit or tag of the object. Allocates what that part allocates.

@@ -6,10 +6,10 @@ ghost use Rattle.gixobj_tag.specs.TagWriting.{encode_signature};
 use super::super::Tag;
 use super::{unsigned_size, write_tag};
 use bstr::BString;
-use gixobj_streams::streams::Sink;
 use gixobj_fields::{WriteTo, encode};
 use gixobj_hash::Kind;
 use gixobj_hash::optional::borrowed;
+use gixobj_streams::streams::Sink;
 use std::alloc::Global;
 
 /// Writes the tag, with its id in lower-case hex and its tagger as `Signature::write_to` encodes it.

@@ -5,8 +5,8 @@ use super::TreeRef;
 use crate::tree::write::{size_with_entry_ref, write_entry_ref};
 use gixobj_fields::WriteTo;
 use gixobj_fields::encode::Error;
-use gixobj_streams::streams::Sink;
 use gixobj_hash::Kind;
+use gixobj_streams::streams::Sink;
 use std::alloc::Global;
 
 /// The encoding of a tree is its entries in their present order.
