@@ -6,7 +6,7 @@ use Rattle.gixobj_c.specs.Spans.{IsSpanOf}
 use Rattle.gixobj_c.specs.declared.commits.CommitToken.{CommitToken}
 use Rattle.gixobj_c.specs.declared.commits.Cursor.{Cursor}
 use Rattle.gixobj_fields.specs.HeaderFormat.{encode_continuation, encode_line, value_of_lines}
-use Rattle.gixobj_fields.specs.Runs.{HasNoPiece}
+use Rattle.gixobj_hash.specs.Runs.{HasNoPiece}
 use Rattle.gixobj_hash.specs.Bytes.{newline}
 use Rattle.gixobj_hash.specs.ByteStrings.{IsByteFree}
 use Rattle.gixobj_hash.specs.declared.hash.kind.Kind.{Kind}

@@ -16,7 +16,7 @@ use Rattle.gixobj_fields.proofs.HeaderFields.{header_unique}
 use Rattle.gixobj_fields.proofs.HeadersRoundTrip.{header_round_trips}
 use Rattle.gixobj_fields.specs.FieldWriting.{encode_header, value_lines}
 use Rattle.gixobj_fields.specs.HeaderFormat.{EndsHeader, BeginsWithField, BeginsWithHeader, Header, IsHeaderName, DecodesToHeader, encode_field, encode_continuation, encode_line, value_of_lines}
-use Rattle.gixobj_fields.specs.Runs.{BeginsWithPieces}
+use Rattle.gixobj_hash.specs.Runs.{BeginsWithPieces}
 use Rattle.gixobj_hash.specs.declared.hash.kind.Kind.{Kind}
 use Rattle.gixobj_hash.specs.declared.hash.kind.Kind.TheVariants as hash
 use Rattle.gixobj_line.specs.Commit.{DecodesToHeaders, CommitLines, before_encoding, encode_encoding, encode_ids, encode_parent}

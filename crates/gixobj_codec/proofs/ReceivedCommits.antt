@@ -10,10 +10,10 @@ use Rattle.gixobj_commit.specs.CommitSigning.{is_header_named, payload_of_commit
 use Rattle.gixobj_commit.specs.CommitWriting.{encode_commit}
 use Rattle.gixobj_tokens.specs.CommitSignatures.{signature_field, HasCommitSignature, HasNoSignature}
 use Rattle.gixobj_fields.proofs.HeadersRoundTrip.{header_round_trips}
-use Rattle.gixobj_fields.proofs.Runs.{begins_with_pieces_snoc}
+use Rattle.gixobj_hash.proofs.Runs.{begins_with_pieces_snoc}
 use Rattle.gixobj_fields.specs.FieldWriting.{encode_header, value_lines}
 use Rattle.gixobj_fields.specs.HeaderFormat.{BeginsWithHeader, Header, DecodesToHeader, value_of_lines}
-use Rattle.gixobj_fields.specs.Runs.{BeginsWithPieces, Yields, complete, yields_end, yields_piece}
+use Rattle.gixobj_hash.specs.Runs.{BeginsWithPieces, Yields, complete, yields_end, yields_piece}
 use Rattle.gixobj_hash.specs.declared.hash.kind.Kind.{Kind}
 use Rattle.gixobj_line.proofs.EntireCommits.{reaches_end, reaches_more}
 use Rattle.gixobj_line.proofs.LinesYielded.{yields_lines_of_commit}

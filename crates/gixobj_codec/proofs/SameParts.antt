@@ -6,9 +6,9 @@ use Rattle.std.specs.Prelude.{map}
 use Rattle.gixobj_actor.specs.Actor.{NamesActor}
 use Rattle.gixobj_tokens.specs.CommitSignatures.{signature_field}
 use Rattle.gixobj_fields.proofs.HeaderFields.{header_unique, hex_digits_newline_free}
-use Rattle.gixobj_fields.proofs.Runs.{yields_after_pieces}
+use Rattle.gixobj_hash.proofs.Runs.{yields_after_pieces}
 use Rattle.gixobj_fields.specs.HeaderFormat.{BeginsWithHeader, Header, encode_field}
-use Rattle.gixobj_fields.specs.Runs.{BeginsWithPieces, complete}
+use Rattle.gixobj_hash.specs.Runs.{BeginsWithPieces, complete}
 use Rattle.gixobj_hash.specs.ByteStrings.{IsByteFree}
 use Rattle.gixobj_hash.specs.Bytes.{newline}
 use Rattle.gixobj_hash.specs.Hash.Hex.{IsIdHexOfKind}

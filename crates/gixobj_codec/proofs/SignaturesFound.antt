@@ -7,7 +7,7 @@ use Rattle.gixobj_tokens.specs.CommitSignatures.{signature_field, HasNoSignature
 use Rattle.gixobj_fields.proofs.HeaderFields.{header_unique}
 use Rattle.gixobj_fields.specs.FieldWriting.{encode_header}
 use Rattle.gixobj_fields.specs.HeaderFormat.{EndsHeader, BeginsWithHeader, BeginsWithNoHeader, Header, DecodesToHeader}
-use Rattle.gixobj_fields.specs.Runs.{Yields, broken, complete, yields_end, yields_error, yields_piece}
+use Rattle.gixobj_hash.specs.Runs.{Yields, broken, complete, yields_end, yields_error, yields_piece}
 use Rattle.gixobj_hash.specs.declared.decode.Error.TheVariants.{Malformed}
 use Rattle.gixobj_hash.specs.declared.hash.kind.Kind.{Kind}
 use Rattle.gixobj_line.proofs.LinesYielded.{yields_lines_of_commit}

@@ -23,7 +23,7 @@ pub use Rattle.gixobj_entries.specs.declared as entries
 pub use Rattle.gixobj_fields.specs.FieldWriting
 pub use Rattle.gixobj_fields.specs.HeaderReading
 pub use Rattle.gixobj_fields.specs.HeaderFormat
-pub use Rattle.gixobj_fields.specs.Runs
+pub use Rattle.gixobj_hash.specs.Runs
 pub use Rattle.gixobj_streams.specs.Streams
 pub use Rattle.gixobj_fields.specs.Writing
 pub use Rattle.gixobj_fields.specs.declared as fields

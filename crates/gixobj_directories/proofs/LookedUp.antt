@@ -4,8 +4,8 @@ use Rattle.std.specs.Prelude.{All, Bool, IsFalse, MatchOption, Option, if◌then
 use Rattle.std.proofs.lemmas.List.Elements.{All-head, All-tail}
 use Rattle.gixobj_store.specs.Lookups.{HasFirstNamed, IsPath, Name}
 use Rattle.gixobj_store.specs.Stores.{Objects, StoredObject}
-use Rattle.gixobj_fields.specs.Runs as runs
-use Rattle.gixobj_fields.specs.Runs.{complete, yields_end, yields_piece}
+use Rattle.gixobj_hash.specs.Runs as runs
+use Rattle.gixobj_hash.specs.Runs.{complete, yields_end, yields_piece}
 use Rattle.gixobj_files.specs.Files.{Below, Files, ContainsEntry, Table, Trees, is_null, resolves_to}
 use Rattle.gixobj_files.specs.Tables.{AgreesWithStore}
 use Rattle.gixobj_hash.specs.Hash.{id_bytes}

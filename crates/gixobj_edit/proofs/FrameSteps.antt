@@ -5,8 +5,8 @@ use Rattle.std.proofs.lemmas.List.{length-drop, length-take-le}
 use Rattle.std.specs.FinMap as map
 use Rattle.std.specs.Prelude.{Err, None, Ok, Option, Result, Some}
 use Rattle.gixobj_edit.specs.Frames.{AreFrames, AreNoFrames, BeginsWithFrame, NextFrame, objects_of, with_contents}
-use Rattle.gixobj_fields.proofs.Runs.{begins_with_pieces_snoc, yields_of_begins_with_pieces}
-use Rattle.gixobj_fields.specs.Runs.{HasNoPiece, BeginsWithPieces, Yields, broken, complete, yields_end, yields_error}
+use Rattle.gixobj_hash.proofs.Runs.{begins_with_pieces_snoc, yields_of_begins_with_pieces}
+use Rattle.gixobj_hash.specs.Runs.{HasNoPiece, BeginsWithPieces, Yields, broken, complete, yields_end, yields_error}
 use Rattle.gixobj_hash.proofs.Headers.{parts_of_loose_header}
 use Rattle.gixobj_hash.specs.Decode.{HasLooseHeaderOfLength}
 use Rattle.gixobj_hash.specs.Hash.{id_of}

@@ -4,7 +4,7 @@ use Rattle.std.specs.Prelude.{◌≡◌, ◌++◌, ℕ, Contains, List, [], ◌�
 use Rattle.std.specs.FinMap as map
 use Rattle.gixobj_edit.specs.declared.failure.Failure.{Failure}
 use Rattle.gixobj_edit.specs.declared.failure.Failure.TheVariants as failure
-use Rattle.gixobj_fields.specs.Runs.{BeginsWithPieces, Yields, broken, complete}
+use Rattle.gixobj_hash.specs.Runs.{BeginsWithPieces, Yields, broken, complete}
 use Rattle.gixobj_hash.specs.Decode.{HasLooseHeaderOfLength}
 use Rattle.gixobj_hash.specs.Encode.{encode_loose_header}
 use Rattle.gixobj_hash.specs.Hash.{id_of}

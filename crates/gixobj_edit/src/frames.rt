@@ -3,7 +3,7 @@ ghost use Rattle.std.specs.Prelude.{◌≡◌, ◌++◌, ℕ, IfErr, IfNone, IfO
 ghost use Rattle.std.specs.List.{flat_map};
 ghost use Rattle.gixobj_edit.specs.Frames.{BeginsWithFrame, NextFrame, HoldsFrames, IsFrameError, IsFramesEncodeError, IsFramesError, encode_frame, encode_tree_frame};
 ghost use Rattle.gixobj_editor.specs.Commands.{emitted_pairs, pairs_of, pairs_of_edit};
-ghost use Rattle.gixobj_fields.specs.Runs.{HasNoPiece};
+ghost use Rattle.gixobj_hash.specs.Runs.{HasNoPiece};
 ghost use Rattle.gixobj_hash.specs.Decode.{HasLooseHeaderOfLength};
 ghost use Rattle.gixobj_hash.specs.declared.kind.Kind.TheVariants as object;
 

@@ -3,9 +3,9 @@ use Rattle.std.proofs.Common.{◌≡◌, ◌≢◌, ℕ, List, [], ◌∷◌, �
 use Rattle.std.proofs.lemmas.List.{map-append}
 use Rattle.std.specs.List.{AllZip, concat}
 use Rattle.std.specs.Prelude.{⊤}
-use Rattle.gixobj_fields.proofs.Runs as runs
-use Rattle.gixobj_fields.proofs.Runs.{begins_with_pieces_snoc, yields_of_begins_with_pieces}
-use Rattle.gixobj_fields.specs.Runs.{Ending, HasNoPiece, BeginsWithPieces, broken, complete, yields_end, yields_error, yields_piece}
+use Rattle.gixobj_hash.proofs.Runs as runs
+use Rattle.gixobj_hash.proofs.Runs.{begins_with_pieces_snoc, yields_of_begins_with_pieces}
+use Rattle.gixobj_hash.specs.Runs.{Ending, HasNoPiece, BeginsWithPieces, broken, complete, yields_end, yields_error, yields_piece}
 use Rattle.gixobj_hash.specs.declared.hash.kind.Kind.{Kind}
 use Rattle.gixobj_entries.specs.Entries.{EntryView}
 use Rattle.gixobj_entries.proofs.OneEntry.{entry_unique, entry_rest_len_lt}

@@ -2,7 +2,6 @@
 use Rattle.std.proofs.Common.{◌≡◌, ◌≢◌, ◌<◌, ◌≤◌, ℕ, List, [], ◌∷◌, ◌++◌, ap, append_assoc, arith, length, length-append, refl, subst, sym, ◌∙◌}
 use Rattle.std.proofs.lemmas.List.{get_or_append_left}
 use Rattle.std.specs.Prelude.{get_or}
-use Rattle.gixobj_fields.specs.HeaderFormat.{EndsHeader}
 use Rattle.gixobj_hash.specs.Hash.{hash_len, id_bytes}
 use Rattle.gixobj_hash.specs.declared.hash.kind.Kind.{Kind}
 use Rattle.gixobj_hash.specs.declared.hash.kind.Kind.TheVariants as hash
@@ -173,13 +172,11 @@ after_mode_eq_space_and_name kind input after mode e rest begun p =
     (split_at_space_unique begun.digits after p.digits (32 ∷ (e.name ++ 0 ∷ (id_bytes e.id ++ rest))) (octal_digits_space_free begun.digits begun.decodes.octal)
     (octal_digits_space_free p.digits p.mode.octal) begun.ends refl (sym begun.joined ∙ p.joined)).1
 
-not_ends_header_at_space : (tail : List ℕ) → EndsHeader (32 ∷ tail) → ⊥
-not_ends_header_at_space tail ends = ends refl
-
-pub no_entry_without_space : (kind : Kind) (input after : List ℕ) (mode : ℕ) → BeginsWithMode input mode after → EndsHeader after → BeginsWithNoEntry kind input
-no_entry_without_space kind input after mode begun ends = λ e rest has.
-    not_ends_header_at_space (e.name ++ 0 ∷ (id_bytes e.id ++ rest))
-    (subst EndsHeader (after_mode_eq_space_and_name kind input after mode e rest begun (parted_of_begins kind input e rest has)) ends)
+pub no_entry_without_space : (kind : Kind) (input after : List ℕ) (mode : ℕ) → BeginsWithMode input mode after → ((tail : List ℕ) → after ≢ 32 ∷ tail)
+    → BeginsWithNoEntry kind input
+no_entry_without_space kind input after mode begun none = λ e rest has.
+    none (e.name ++ 0 ∷ (id_bytes e.id ++ rest))
+    (after_mode_eq_space_and_name kind input after mode e rest begun (parted_of_begins kind input e rest has))
 
 -- the name, a zero byte, the id and the rest follow the space
 from_name_eq_name_and_id : (kind : Kind) (input after from_name : List ℕ) (mode : ℕ) (e : EntryView) (rest : List ℕ) → BeginsWithMode input mode after

@@ -4,6 +4,6 @@ pub mod EntryOrderLaws
 pub mod EntryViews
 pub mod KeyOrder
 pub mod TreeDecoding
-pub use Rattle.gixobj_fields.specs.Runs
+pub use Rattle.gixobj_hash.specs.Runs
 pub use Rattle.gixobj_hash.specs.ByteStrings
 pub use Rattle.gixobj_hash.specs.Hash

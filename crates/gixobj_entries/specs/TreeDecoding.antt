@@ -1,8 +1,8 @@
 -- Decoding of trees (gitdatamodel, "trees"; git-fast-import, "filemodify", has the modes).
 use Rattle.std.specs.Prelude.{◌≡◌, ◌++◌, ◌∷◌, ℕ, List, ⊤, length}
 use Rattle.std.specs.List.{AllZip, concat}
-use Rattle.gixobj_fields.specs.Runs as runs
-use Rattle.gixobj_fields.specs.Runs.{Ending}
+use Rattle.gixobj_hash.specs.Runs as runs
+use Rattle.gixobj_hash.specs.Runs.{Ending}
 use Rattle.gixobj_hash.specs.Hash.{hash_len, id_bytes, id_kind}
 use Rattle.gixobj_hash.specs.declared.decode.Error.{Error}
 use Rattle.gixobj_hash.specs.declared.decode.Error.TheVariants.{Malformed, OutOfMemory}

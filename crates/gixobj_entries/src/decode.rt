@@ -1,5 +1,6 @@
 //! Decoding of single entries (gitdatamodel, "trees").
-ghost use Rattle.std.specs.Prelude.{◌≤◌, ◌<◌, ◌+◌, IfNone, IfSome, drop, length, take};
+ghost use Rattle.std.specs.Prelude.{◌≡◌, ◌≢◌, ◌≤◌, ◌<◌, ◌+◌, ◌∷◌, ℕ, IfNone, IfSome, List, MatchOption, drop, length, take};
+ghost use Rattle.gixobj_hash.specs.Bytes.{space};
 ghost use Rattle.gixobj_hash.specs.Hash.{hash_len};
 ghost use Rattle.gixobj_hash.specs.Hash.Borrowed.{borrowed_id};
 ghost use Rattle.gixobj_hash.specs.ByteStrings.{IsByteFree, SplitsAt};
@@ -8,7 +9,6 @@ ghost use Rattle.gixobj_entries.specs.EntryViews.{entry_view};
 
 use crate::EntryRef;
 use bstr::BStr;
-use gixobj_fields::parse::after_space;
 use gixobj_hash::hash::{Kind, oid};
 use gixobj_hash::split::split_at_byte;
 use gixobj_mode::EntryMode;
@@ -46,6 +46,18 @@ pub fn decode_entry(input: &[u8], hash_kind: Kind) -> Option<(EntryRef<'_>, &[u8
         },
         rest,
     ))
+}
+
+/// Returns the bytes after the space at the beginning of the input, or `None` without one.
+#[inline(always)]
+fn after_space(input: &[u8]) -> Option<&[u8]>
+    ensures { MatchOption result ((rest : List ℕ) → input.now ≢ space ∷ rest)
+        (λ rest. input.now ≡ space ∷ rest.now) }
+{
+    match input {
+        [b' ', rest @ ..] => Some(rest),
+        _ => None,
+    }
 }
 
 /// Splits at the first zero byte, or returns `None` without one. Most names are short, so the first 32

@@ -4,6 +4,5 @@ pub mod HeaderFields
 pub mod HeadersRoundTrip
 pub mod Readers
 pub mod Errors
-pub mod Runs
 pub mod Steps
 mod StreamReads

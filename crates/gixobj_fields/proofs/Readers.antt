@@ -2,9 +2,9 @@
 use Rattle.std.proofs.Common.{◌≡◌, ◌≢◌, ◌≤◌, ℕ, List, [], ◌∷◌, ◌++◌, arith, length, refl, subst, ◌∙◌}
 use Rattle.std.proofs.lemmas.List.Elements.{All-nil, All-push}
 use Rattle.std.specs.Prelude.{Some, None, Result, Ok, Err}
-use Rattle.gixobj_fields.proofs.Runs.{begins_with_pieces_snoc, yields_of_begins_with_pieces}
+use Rattle.gixobj_hash.proofs.Runs.{begins_with_pieces_snoc, yields_of_begins_with_pieces}
 use Rattle.gixobj_fields.specs.Iterators.{IsOptionalSearchError, FindsFirst, IsRequiredSearchError, NextPiece, YieldsNone, BeginsWithOtherPieces, ReadsFirst, ReadsNone, ReaderState}
-use Rattle.gixobj_fields.specs.Runs.{IsPieceError, Yields, broken, complete, yields_end, yields_error}
+use Rattle.gixobj_hash.specs.Runs.{IsPieceError, Yields, broken, complete, yields_end, yields_error}
 use Rattle.gixobj_hash.specs.declared.decode.Error.{Error}
 use Rattle.gixobj_hash.specs.declared.decode.Error.TheVariants.{Malformed, OutOfMemory}
 

@@ -1,7 +1,7 @@
 -- Iterators over the pieces of an object, and searches for the first piece that satisfies a predicate.
 use Rattle.std.specs.Prelude.{◌≡◌, ◌≢◌, ℕ, List, [], Option, Some, None, Result, Ok, Err}
-use Rattle.gixobj_fields.specs.Runs as runs
-use Rattle.gixobj_fields.specs.Runs.{Ending, broken}
+use Rattle.gixobj_hash.specs.Runs as runs
+use Rattle.gixobj_hash.specs.Runs.{Ending, broken}
 use Rattle.gixobj_hash.specs.declared.decode.Error.{Error}
 use Rattle.gixobj_hash.specs.declared.decode.Error.TheVariants.{Malformed, OutOfMemory}
 

@@ -2,7 +2,6 @@ pub mod FieldWriting
 pub mod HeaderReading
 pub mod HeaderFormat
 pub mod Iterators
-pub mod Runs
 pub mod StreamHash
 pub use Rattle.gixobj_streams.specs.Streams
 pub mod Writing
@@ -12,3 +11,4 @@ pub use Rattle.gixobj_hash.specs.Encode
 pub use Rattle.gixobj_hash.specs.Hash
 pub use Rattle.gixobj_hash.specs.Kind
 pub use Rattle.gixobj_hash.specs.ByteStrings
+pub use Rattle.gixobj_hash.specs.Runs

@@ -7,6 +7,7 @@ pub mod Headers
 pub mod HexCase
 mod HexDigits
 pub mod HexIds
+pub mod Runs
 mod HexSteps
 mod HexTests
 pub mod EncodedHex

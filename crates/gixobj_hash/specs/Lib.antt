@@ -5,4 +5,5 @@ pub mod Encode
 pub mod Hash
 pub mod Kind
 pub mod Optional
+pub mod Runs
 pub mod ByteStrings

@@ -1,6 +1,6 @@
 -- A commit built from its lines, one by one.
 use Rattle.std.specs.Prelude.{◌≡◌, ◌≢◌, ℕ, List, [], ◌∷◌, ◌++◌, Some, None, ⊤}
-use Rattle.gixobj_fields.specs.Runs.{BeginsWithPieces}
+use Rattle.gixobj_hash.specs.Runs.{BeginsWithPieces}
 use Rattle.gixobj_hash.specs.declared.hash.kind.Kind.{Kind}
 use Rattle.gixobj_line.specs.Commit.{CommitLines}
 use Rattle.gixobj_line.specs.Lines.{BeginsWithLine, LineView, author_line, committer_line, encoding_line, header_line, message_line, parent_line, tree_line}

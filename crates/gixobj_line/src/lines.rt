@@ -4,7 +4,7 @@ ghost use Rattle.bstr.specs.BStr.{bstr_bytes};
 ghost use Rattle.gixobj_actor.specs.Actor.{IsActorOf, actor_view};
 ghost use Rattle.gixobj_fields.specs.HeaderFormat.{BeginsWithHeader, BeginsWithNoHeader, Header, IsHeaderName};
 ghost use Rattle.gixobj_fields.specs.HeaderReading.{BeginsWithContinuations, BeginsWithNoContinuations};
-ghost use Rattle.gixobj_fields.specs.Runs.{HasNoPiece};
+ghost use Rattle.gixobj_hash.specs.Runs.{HasNoPiece};
 ghost use Rattle.gixobj_hash.specs.ByteStrings.{IsByteFree};
 ghost use Rattle.gixobj_hash.specs.declared.hash.kind.Kind.{Kind};
 ghost use Rattle.gixobj_line.specs.Lines.{BeginsWithActorField, BeginsWithLine, BeginsWithNoActorField, BeginsWithSomeLine, IsLineError, IsParsedLine, line_view};

@@ -2,8 +2,8 @@
 use Rattle.std.proofs.Common.{◌≡◌, ◌<◌, ◌≤◌, ℕ, List, arith, length}
 use Rattle.std.specs.Prelude.{Some, None, Result, Ok, Err}
 use Rattle.gixobj_fields.proofs.Readers as readers
-use Rattle.gixobj_fields.proofs.Runs as runs
-use Rattle.gixobj_fields.specs.Runs.{Ending, complete}
+use Rattle.gixobj_hash.proofs.Runs as runs
+use Rattle.gixobj_hash.specs.Runs.{Ending, complete}
 use Rattle.gixobj_hash.specs.declared.decode.Error.{Error}
 use Rattle.gixobj_hash.specs.declared.hash.kind.Kind.{Kind}
 use Rattle.gixobj_line.proofs.OneLine.{line_len_lt}

@@ -1,8 +1,8 @@
 -- An iterator over commits that consumes all tokens.
 use Rattle.std.proofs.Common.{◌++◌, ◌∷◌, ◌∙◌, List, [], ℕ, Ok, Err, Some, None, ap, subst, sym}
-use Rattle.gixobj_fields.proofs.Runs.{begins_with_pieces_snoc, yields_of_begins_with_pieces}
+use Rattle.gixobj_hash.proofs.Runs.{begins_with_pieces_snoc, yields_of_begins_with_pieces}
 use Rattle.gixobj_fields.specs.Iterators.{ReaderState}
-use Rattle.gixobj_fields.specs.Runs.{HasNoPiece, broken, complete, yields_end, yields_error}
+use Rattle.gixobj_hash.specs.Runs.{HasNoPiece, broken, complete, yields_end, yields_error}
 use Rattle.gixobj_hash.specs.declared.decode.Error.TheVariants.{Malformed}
 use Rattle.gixobj_hash.specs.declared.hash.kind.Kind.{Kind}
 use Rattle.gixobj_line.specs.declared.lines.State.{State}

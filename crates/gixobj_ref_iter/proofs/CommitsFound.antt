@@ -5,9 +5,9 @@ use Rattle.std.proofs.lemmas.List.Elements.{All-append, All-cons, All-head, All-
 use Rattle.std.specs.List.{AllZip}
 use Rattle.std.specs.Prelude.{map, ⊤}
 use Rattle.gixobj_actor.specs.Actor.{ActorView, IsActorOf}
-use Rattle.gixobj_fields.proofs.Runs.{after_first, yields_after_pieces, one_here}
+use Rattle.gixobj_hash.proofs.Runs.{after_first, yields_after_pieces, one_here}
 use Rattle.gixobj_fields.specs.Iterators.{ReaderState}
-use Rattle.gixobj_fields.specs.Runs.{Ending, HasNone, broken, complete, yields_end, yields_piece}
+use Rattle.gixobj_hash.specs.Runs.{Ending, HasNone, broken, complete, yields_end, yields_piece}
 use Rattle.gixobj_hash.specs.Hash.{DecodesToId}
 use Rattle.gixobj_hash.specs.declared.decode.Error.{Error}
 use Rattle.gixobj_hash.specs.declared.decode.Error.TheVariants.{Malformed, OutOfMemory}

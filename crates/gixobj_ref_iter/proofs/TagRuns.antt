@@ -2,9 +2,9 @@
 use Rattle.std.proofs.Common.{◌≡◌, ℕ, List, refl}
 use Rattle.std.specs.Prelude.{Option, Some, None, Result, Ok, Err, ⊤}
 use Rattle.gixobj_fields.proofs.Readers as readers
-use Rattle.gixobj_fields.proofs.Runs as runs
+use Rattle.gixobj_hash.proofs.Runs as runs
 use Rattle.gixobj_fields.specs.Iterators.{FindsFirst, IsRequiredSearchError, YieldsNone}
-use Rattle.gixobj_fields.specs.Runs.{Ending, complete}
+use Rattle.gixobj_hash.specs.Runs.{Ending, complete}
 use Rattle.gixobj_hash.specs.declared.decode.Error.{Error}
 use Rattle.gixobj_hash.specs.declared.decode.Error.TheVariants.{Malformed, OutOfMemory}
 use Rattle.gixobj_hash.specs.declared.hash.kind.Kind.{Kind}

@@ -2,9 +2,9 @@
 use Rattle.std.proofs.Common.{◌≡◌, ◌≢◌, ℕ, List, [], ◌∷◌, ◌++◌, Option, Some, None, Result, Ok, Err, append_assoc, ap, refl, subst, sym, ◌∙◌}
 use Rattle.std.proofs.lemmas.List.{append-nil}
 use Rattle.gixobj_actor.specs.declared.actor.SignatureRef.{SignatureRef}
-use Rattle.gixobj_fields.proofs.Runs.{after_first, yields_after_pieces, one_here}
+use Rattle.gixobj_hash.proofs.Runs.{after_first, yields_after_pieces, one_here}
 use Rattle.gixobj_fields.specs.Iterators.{ReaderState}
-use Rattle.gixobj_fields.specs.Runs.{Ending, HasNone, complete, yields_end, yields_piece}
+use Rattle.gixobj_hash.specs.Runs.{Ending, HasNone, complete, yields_end, yields_piece}
 use Rattle.gixobj_hash.specs.Hash.{DecodesToId}
 use Rattle.gixobj_hash.specs.declared.decode.Error.{Error}
 use Rattle.gixobj_hash.specs.declared.decode.Error.TheVariants.{Malformed, OutOfMemory}

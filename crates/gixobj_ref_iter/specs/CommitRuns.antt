@@ -1,7 +1,7 @@
 -- The run of a token iterator over a commit, from its state to its end (gitdatamodel, "commits").
 use Rattle.std.specs.Prelude.{ℕ, List}
-use Rattle.gixobj_fields.specs.Runs as runs
-use Rattle.gixobj_fields.specs.Runs.{Ending}
+use Rattle.gixobj_hash.specs.Runs as runs
+use Rattle.gixobj_hash.specs.Runs.{Ending}
 use Rattle.gixobj_hash.specs.declared.hash.kind.Kind.{Kind}
 use Rattle.gixobj_ref_iter.specs.CommitTokens.{BeginsWithCommitToken, CommitTokenView}
 use Rattle.gixobj_line.specs.declared.lines.State.{State}

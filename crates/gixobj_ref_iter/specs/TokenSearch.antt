@@ -5,8 +5,8 @@ use Rattle.gixobj_actor.specs.Actor.{ActorView}
 use Rattle.gixobj_hash.specs.declared.decode.Error.{Error}
 use Rattle.gixobj_hash.specs.declared.hash.kind.Kind.{Kind}
 use Rattle.gixobj_fields.specs.Iterators as readers
-use Rattle.gixobj_fields.specs.Runs as runs
-use Rattle.gixobj_fields.specs.Runs.{Ending, complete}
+use Rattle.gixobj_hash.specs.Runs as runs
+use Rattle.gixobj_hash.specs.Runs.{Ending, complete}
 use Rattle.gixobj_line.specs.Lines.{NeedsAllocation}
 use Rattle.gixobj_line.specs.declared.lines.State.TheVariants as state
 use Rattle.gixobj_ref_iter.specs.CommitTokens.{CommitTokenView, BeginsWithCommitToken, DecodesToCommitToken, author_token, committer_token, message_token, parent_token}

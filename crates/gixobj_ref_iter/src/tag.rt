@@ -1,6 +1,6 @@
 //! The token iterator over tags (gitdatamodel, "tag objects").
 ghost use Rattle.std.specs.Prelude.{◌≡◌, IfErr, IfOk};
-ghost use Rattle.gixobj_fields.specs.Runs.{Ending};
+ghost use Rattle.gixobj_hash.specs.Runs.{Ending};
 ghost use Rattle.gixobj_hash.specs.declared.decode.Error.TheVariants.{Malformed};
 ghost use Rattle.gixobj_ref_iter.specs.TagTokenSteps.{FindsTagger, NextIdOfTag, NextTagToken, IsAtStartOfTag, YieldsNoTagger, remaining_tag_token_count};
 

@@ -2,7 +2,7 @@
 -- `tree_readers_agree`.
 use Rattle.std.proofs.Common.{◌≡◌, ◌≢◌, ◌≤◌, ◌++◌, ◌∷◌, ℕ, List, [], ap, append_assoc, arith, length, length-append, refl, sym, ◌∙◌}
 use Rattle.std.specs.List.{AllZip, concat}
-use Rattle.gixobj_fields.specs.Runs.{Ending, broken, yields_end, yields_error, yields_piece}
+use Rattle.gixobj_hash.specs.Runs.{Ending, broken, yields_end, yields_error, yields_piece}
 use Rattle.gixobj_hash.specs.declared.hash.kind.Kind.{Kind}
 use Rattle.gixobj_entries.specs.Entries.{EntryView}
 use Rattle.gixobj_entries.proofs.OneEntry.{entry_unique}

@@ -2,7 +2,7 @@
 use Rattle.std.proofs.Common.{◌≡◌, ◌≤◌, ℕ, List, arith, length, refl}
 use Rattle.std.specs.Prelude.{⊤, Some, None, Result, Ok, Err}
 use Rattle.gixobj_fields.proofs.Readers as readers
-use Rattle.gixobj_fields.specs.Runs.{broken, complete}
+use Rattle.gixobj_hash.specs.Runs.{broken, complete}
 use Rattle.gixobj_hash.specs.declared.decode.Error.{Error}
 use Rattle.gixobj_hash.specs.declared.decode.Error.TheVariants.{Malformed, OutOfMemory}
 use Rattle.gixobj_hash.specs.declared.hash.kind.Kind.{Kind}

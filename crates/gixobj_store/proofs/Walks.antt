@@ -2,9 +2,9 @@
 use Rattle.std.proofs.Common.{◌++◌, ◌∷◌, List, [], ℕ, Ok, Err, Some, None, ap, refl, subst, sym, ◌∙◌}
 use Rattle.std.proofs.lemmas.List.{append-nil, append_assoc}
 use Rattle.std.specs.Prelude.{⊤, Option, Result}
-use Rattle.gixobj_fields.proofs.Runs.{begins_with_pieces_snoc, yields_of_begins_with_pieces}
+use Rattle.gixobj_hash.proofs.Runs.{begins_with_pieces_snoc, yields_of_begins_with_pieces}
 use Rattle.gixobj_fields.specs.Iterators.{ReaderState}
-use Rattle.gixobj_fields.specs.Runs.{broken, complete, yields_end, yields_error}
+use Rattle.gixobj_hash.specs.Runs.{broken, complete, yields_end, yields_error}
 use Rattle.gixobj_hash.specs.declared.decode.Error.{Error}
 use Rattle.gixobj_hash.specs.declared.decode.Error.TheVariants.{Malformed, OutOfMemory}
 use Rattle.gixobj_hash.specs.declared.hash.kind.Kind.{Kind}

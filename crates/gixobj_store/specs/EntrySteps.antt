@@ -2,7 +2,7 @@
 use Rattle.std.specs.Prelude.{◌≡◌, ◌++◌, ℕ, List, Option, Result, length, ⊤}
 use Rattle.std.specs.Iterator.{Count, at_most}
 use Rattle.gixobj_fields.specs.Iterators.{NextPiece, ReaderState}
-use Rattle.gixobj_fields.specs.Runs as runs
+use Rattle.gixobj_hash.specs.Runs as runs
 use Rattle.gixobj_hash.specs.declared.decode.Error.{Error}
 use Rattle.gixobj_hash.specs.declared.hash.kind.Kind.{Kind}
 use Rattle.gixobj_entries.specs.Entries.{EntryView}

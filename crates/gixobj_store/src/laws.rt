@@ -1,7 +1,7 @@
 //! Laws of the tree readers and of object stores. Each function does nothing: its contract is the law.
 ghost use Rattle.std.specs.Prelude.{◌≡◌, ◌≢◌, ◌⊎◌, ◌++◌, ◌∷◌, [], ℕ, Err, List, None, Ok, Option, Result, Some};
 ghost use Rattle.std.specs.FinMap as finite;
-ghost use Rattle.gixobj_fields.specs.Runs.{Ending, broken, complete};
+ghost use Rattle.gixobj_hash.specs.Runs.{Ending, broken, complete};
 ghost use Rattle.gixobj_hash.specs.declared.decode.Error.{Error};
 ghost use Rattle.gixobj_hash.specs.declared.hash.kind.Kind.{Kind};
 ghost use Rattle.gixobj_hash.specs.declared.hash.object_id.ObjectId.{ObjectId};

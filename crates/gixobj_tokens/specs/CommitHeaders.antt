@@ -2,8 +2,8 @@
 use Rattle.std.specs.Prelude.{◌≡◌, ℕ, List, Option, Some, None, ◌++◌}
 use Rattle.std.specs.Cow.{cow_slice_items}
 use Rattle.gixobj_fields.specs.HeaderFormat.{Header}
-use Rattle.gixobj_fields.specs.Runs as runs
-use Rattle.gixobj_fields.specs.Runs.{BeginsWithOtherPieces, broken, complete}
+use Rattle.gixobj_hash.specs.Runs as runs
+use Rattle.gixobj_hash.specs.Runs.{BeginsWithOtherPieces, broken, complete}
 use Rattle.gixobj_hash.specs.declared.decode.Error.{Error}
 use Rattle.gixobj_hash.specs.declared.decode.Error.TheVariants.{Malformed, OutOfMemory}
 use Rattle.gixobj_hash.specs.declared.hash.kind.Kind.{Kind}

@@ -1,6 +1,6 @@
 //! The tokens of tags (gitdatamodel, "tag objects").
 ghost use Rattle.std.specs.Prelude.{◌≡◌, ◌≢◌, [], IfNone, IfSome, MatchOption, None, Some};
-ghost use Rattle.gixobj_fields.specs.Runs.{HasNoPiece};
+ghost use Rattle.gixobj_hash.specs.Runs.{HasNoPiece};
 ghost use Rattle.gixobj_hash.specs.Hash.Borrowed.{borrowed_id};
 ghost use Rattle.gixobj_hash.specs.declared.hash.kind.Kind as hash;
 ghost use Rattle.gixobj_line.specs.TagLineViews.{IsParsedTagger, line_if_some};

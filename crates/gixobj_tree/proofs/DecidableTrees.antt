@@ -6,7 +6,7 @@ use Rattle.std.proofs.lemmas.List.Elements.{All-cons, All-nil}
 use Rattle.std.specs.Char.{digit_value}
 use Rattle.std.specs.Prelude.{get_or}
 use Rattle.std.specs.Str.Parse.{AllDigits}
-use Rattle.gixobj_fields.specs.Runs.{Ending, broken, complete, yields_end, yields_error, yields_piece}
+use Rattle.gixobj_hash.specs.Runs.{Ending, broken, complete, yields_end, yields_error, yields_piece}
 use Rattle.gixobj_hash.specs.Hash.{hash_len, id_bytes, id_from}
 use Rattle.gixobj_hash.specs.declared.hash.kind.Kind.{Kind}
 use Rattle.gixobj_hash.specs.declared.hash.kind.Kind.TheVariants as hash

@@ -7,7 +7,7 @@ pub use Rattle.gixobj_entries.specs.Entries
 pub use Rattle.gixobj_entries.specs.EntryOrder
 pub use Rattle.gixobj_entries.specs.KeyOrder
 pub use Rattle.gixobj_entries.specs.TreeDecoding
-pub use Rattle.gixobj_fields.specs.Runs
+pub use Rattle.gixobj_hash.specs.Runs
 pub use Rattle.gixobj_streams.specs.Streams
 pub use Rattle.gixobj_fields.specs.Writing
 pub use Rattle.gixobj_hash.specs.Decode

@@ -10,7 +10,7 @@ ghost use Rattle.gixobj_hash.specs.declared.decode.Error.TheVariants.{Malformed}
 ghost use Rattle.gixobj_hash.specs.declared.hash.kind.Kind.{Kind};
 ghost use Rattle.gixobj_hash.specs.declared.hash.object_id.ObjectId.{ObjectId};
 ghost use Rattle.gixobj_line.specs.Commit.{CommitLines, DecodesToCommit};
-ghost use Rattle.gixobj_fields.specs.Runs.{broken, complete};
+ghost use Rattle.gixobj_hash.specs.Runs.{broken, complete};
 ghost use Rattle.gixobj_ref_iter.specs.CommitRuns.{YieldsCommitTokens};
 ghost use Rattle.gixobj_ref_iter.specs.CommitTokens.{CommitTokenView, commit_token_view};
 ghost use Rattle.gixobj_ref_iter.specs.Readers.{AreTokensOfCommit, EndsInMessage};

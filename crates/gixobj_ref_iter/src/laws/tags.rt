@@ -2,7 +2,7 @@
 //! contract is the law.
 ghost use Rattle.std.specs.Prelude.{◌≡◌, ◌++◌, ◌∷◌, [], ℕ, Err, List, None, Ok, Option, Result, Some};
 ghost use Rattle.gixobj_actor.specs.declared.actor.SignatureRef.{SignatureRef};
-ghost use Rattle.gixobj_fields.specs.Runs.{Ending, broken, complete};
+ghost use Rattle.gixobj_hash.specs.Runs.{Ending, broken, complete};
 ghost use Rattle.gixobj_hash.specs.Hash.{DecodesToId};
 ghost use Rattle.gixobj_hash.specs.declared.decode.Error as decode;
 ghost use Rattle.gixobj_hash.specs.declared.hash.kind.Kind.{Kind};

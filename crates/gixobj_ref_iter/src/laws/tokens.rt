@@ -1,7 +1,7 @@
 //! Laws on the tokens of a commit. Each function is empty, and its contract is the law.
 ghost use Rattle.std.specs.Prelude.{◌≡◌, ℕ, List};
 ghost use Rattle.gixobj_hash.specs.declared.hash.kind.Kind.{Kind};
-ghost use Rattle.gixobj_fields.specs.Runs.{Ending, complete};
+ghost use Rattle.gixobj_hash.specs.Runs.{Ending, complete};
 ghost use Rattle.gixobj_ref_iter.specs.CommitRuns.{YieldsCommitTokens};
 ghost use Rattle.gixobj_ref_iter.specs.CommitTokens.{BeginsWithCommitToken, CommitTokenView};
 ghost use Rattle.gixobj_ref_iter.specs.TokenSearch.{DecodesToCommitTokens};

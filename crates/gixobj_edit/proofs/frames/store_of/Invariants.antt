@@ -1,7 +1,7 @@
 -- The frames so far are in the store.
 use Rattle.std.proofs.Common.{◌≡◌, length, List, ℕ}
 use Rattle.gixobj_edit.specs.Frames.{NextFrame, objects_of}
-use Rattle.gixobj_fields.specs.Runs.{BeginsWithPieces}
+use Rattle.gixobj_hash.specs.Runs.{BeginsWithPieces}
 use Rattle.gixobj_keep.specs.Memory.{memory_objects}
 use Rattle.gixobj_edit.proofs.frames.store_of.Given as goal
 

@@ -1,5 +1,5 @@
 use Rattle.std.proofs.Common.{◌≡◌, ◌+◌, ◌++◌, length, take}
-use Rattle.gixobj_fields.specs.Runs.{BeginsWithOtherPieces}
+use Rattle.gixobj_hash.specs.Runs.{BeginsWithOtherPieces}
 use Rattle.gixobj_line.specs.Lines.{BeginsWithLine}
 use Rattle.gixobj_line.specs.declared.lines.State.TheVariants as state
 use Rattle.gixobj_tokens.specs.CommitHeaders.{IsNamedLine}

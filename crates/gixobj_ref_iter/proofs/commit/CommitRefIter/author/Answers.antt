@@ -1,6 +1,6 @@
 use Rattle.std.proofs.lemmas.Result.{err_from_is_err_and}
 use Rattle.gixobj_ref_iter.proofs.CommitRuns.{ends_search_at_end, ends_search_at_required_error, searches_snoc}
-use Rattle.gixobj_fields.specs.Runs.{complete}
+use Rattle.gixobj_hash.specs.Runs.{complete}
 use Rattle.gixobj_ref_iter.specs.TokenSearch.{IsAuthorToken}
 use Rattle.gixobj_ref_iter.proofs.commit.CommitRefIter.author.Goals as goal
 

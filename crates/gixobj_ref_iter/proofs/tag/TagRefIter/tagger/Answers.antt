@@ -1,6 +1,6 @@
 use Rattle.std.proofs.Common.{refl}
 use Rattle.std.proofs.lemmas.Result.{err_from_is_err_and}
-use Rattle.gixobj_fields.specs.Runs.{complete}
+use Rattle.gixobj_hash.specs.Runs.{complete}
 use Rattle.gixobj_ref_iter.proofs.TagRuns.{is_not_tagger_token, yields_none_at_end, yields_none_at_error, searches_snoc}
 use Rattle.gixobj_ref_iter.specs.TagTokenSteps.{IsTaggerToken}
 use Rattle.gixobj_ref_iter.proofs.tag.TagRefIter.tagger.Goals as goal

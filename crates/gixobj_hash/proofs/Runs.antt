@@ -2,7 +2,7 @@
 use Rattle.std.proofs.Common.{◌≡◌, ℕ, List, [], ◌∷◌, ◌++◌, refl, sym, ap, subst, ◌∙◌}
 use Rattle.std.proofs.lemmas.List.Elements.{All-head, All-tail}
 use Rattle.std.specs.List.{AllZip, concat}
-use Rattle.gixobj_fields.specs.Runs.{Ending, HasNone, BeginsWithPieces, Yields, complete, yields_end, yields_error, yields_piece}
+use Rattle.gixobj_hash.specs.Runs.{Ending, HasNone, BeginsWithPieces, Yields, complete, yields_end, yields_error, yields_piece}
 
 -- ---- pieces that satisfy a predicate
 
