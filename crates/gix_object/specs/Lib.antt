@@ -48,7 +48,7 @@ pub use Rattle.gixobj_fields.specs.Iterators as FieldReaders
 pub use Rattle.gixobj_hash.specs.Runs
 pub use Rattle.gixobj_fields.specs.StreamHash
 pub use Rattle.gixobj_streams.specs.Streams
-pub use Rattle.gixobj_fields.specs.Writing
+pub use Rattle.gixobj_streams.specs.Writing
 pub use Rattle.gixobj_fields.specs.declared as fields
 pub use Rattle.gixobj_files.specs.Bases
 pub use Rattle.gixobj_files.specs.Editing

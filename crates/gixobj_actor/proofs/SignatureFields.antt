@@ -5,10 +5,10 @@ use Rattle.bstr.specs.Owned.{bstring_bytes}
 use Rattle.gixobj_streams.proofs.Appends.{appends_prefix_after_byte}
 use Rattle.gixobj_fields.specs.HeaderFormat.{encode_field}
 use Rattle.gixobj_streams.specs.Streams.{AppendsAll, AppendsPrefix, SinkView}
-use Rattle.gixobj_fields.specs.Writing.{IsWritingError, LacksRoom}
+use Rattle.gixobj_streams.specs.Writing.{IsWritingError, LacksRoom}
 use Rattle.std.specs.declared.io.Error as io
-use Rattle.gixobj_fields.specs.declared.encode.Error.{Error}
-use Rattle.gixobj_fields.specs.declared.encode.Error.TheVariants as error
+use Rattle.gixobj_streams.specs.declared.encode.Error.{Error}
+use Rattle.gixobj_streams.specs.declared.encode.Error.TheVariants as error
 use Rattle.gixobj_actor.specs.ActorWriting.{IsActorError, IsActorFieldError, encode_owned_actor}
 use Rattle.gixobj_actor.specs.declared.actor.Signature.{Signature}
 

@@ -4,12 +4,12 @@ use Rattle.bstr.specs.BStr.{bstr_bytes}
 use Rattle.bstr.specs.Owned.{bstring_bytes}
 use Rattle.gixobj_actor.specs.Actor.{IsActor, IsTimeOrDefault, IsWritable, encode_actor}
 use Rattle.gixobj_actor.specs.Date.{encode_time}
-use Rattle.gixobj_fields.specs.Writing.{RejectedValue, illegal_actor}
+use Rattle.gixobj_streams.specs.Writing.{RejectedValue, illegal_actor}
 use Rattle.gixobj_actor.specs.declared.actor.Signature.{Signature}
 use Rattle.gixobj_actor.specs.declared.actor.SignatureRef.{SignatureRef}
 use Rattle.gixobj_actor.specs.declared.date.Time.{Time}
-use Rattle.gixobj_fields.specs.declared.encode.Error.{Error}
-use Rattle.gixobj_fields.specs.declared.encode.Error.TheVariants.{IllegalActor, Writer}
+use Rattle.gixobj_streams.specs.declared.encode.Error.{Error}
+use Rattle.gixobj_streams.specs.declared.encode.Error.TheVariants.{IllegalActor, Writer}
 use Rattle.gixobj_hash.specs.Bytes.{space}
 use Rattle.std.specs.declared.io.Error as io
 

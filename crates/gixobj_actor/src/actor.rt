@@ -11,16 +11,16 @@ ghost use Rattle.gixobj_actor.specs.ActorWriting.{IsLegal, IsLegalActor, IsActor
 ghost use Rattle.gixobj_actor.specs.Date.{IsMalformedTime, DecodesToTime, encode_time};
 ghost use Rattle.gixobj_streams.specs.Streams.{AppendsAll, AppendsPrefix, AppendsOrFails, writer_view};
 ghost use Rattle.gixobj_hash.specs.declared.decode.Error.TheVariants.{Malformed};
-ghost use Rattle.gixobj_fields.specs.Writing.{IsSize};
+ghost use Rattle.gixobj_streams.specs.Writing.{IsSize};
 ghost use Rattle.gixobj_hash.specs.Bytes.{newline};
 ghost use Rattle.gixobj_hash.specs.ByteStrings.{IsByteFree, trimmed};
 
 use crate::date::{Time, TimeBuf, parse_header};
 use bstr::{BStr, BString, ByteSlice};
 use gixobj_fields::encode::Error;
-use gixobj_fields::short::ShortString;
 use gixobj_hash::split::{has_byte, split_at_byte, split_at_last_byte};
 use gixobj_hash::{OutOfMemory, decode};
+use gixobj_streams::short::ShortString;
 use gixobj_streams::streams::{Sink, ToWrite, write_parts};
 use std::alloc::Global;
 use std::io;

@@ -5,8 +5,8 @@ ghost use Rattle.std.specs.Str.Parse.{IsNumeral, starts_with_minus};
 ghost use Rattle.gixobj_actor.specs.Date.{IsOffset, DecodesToOffset, DecodesToSeconds, DecodesToTime, IsMalformedTime, encode_offset, seconds_digits, signed, encode_time, two_digits};
 ghost use Rattle.gixobj_hash.specs.Bytes.{space};
 
-use gixobj_fields::short::ShortString;
 use gixobj_hash::split::{are_digits, number_from_digits, split_at_byte};
+use gixobj_streams::short::ShortString;
 use itoa::Buffer;
 use std::marker::Model;
 

@@ -3,7 +3,7 @@ ghost use Rattle.std.specs.Prelude.{◌<◌, ◌+◌, ◌^◌, ◌≡◌, length
 ghost use Rattle.std.specs.Option.{SomeIff};
 ghost use Rattle.gixobj_fields.specs.HeaderFormat.{encode_field};
 ghost use Rattle.gixobj_streams.specs.Streams.{AppendsAll};
-ghost use Rattle.gixobj_fields.specs.Writing.{AddsSize, IsWritingError, LacksRoom};
+ghost use Rattle.gixobj_streams.specs.Writing.{AddsSize, IsWritingError, LacksRoom};
 ghost use Rattle.gixobj_actor.specs.ActorWriting.{IsLegal, IsActorFieldError, encode_owned_actor};
 
 use crate::actor::Signature;

@@ -9,7 +9,7 @@ use Rattle.gixobj_actor.specs.declared.actor.Signature.{Signature}
 use Rattle.gixobj_commit.specs.CommitViews.{owned_commit_lines}
 use Rattle.gixobj_commit.specs.CommitWriting.{IsMessageEncodingError, IsOwnedCommitError, before_author, before_committer}
 use Rattle.gixobj_commit.specs.declared.commit.Commit.{Commit}
-use Rattle.gixobj_fields.specs.Writing.{RejectedValue, RejectsNothing, header_with_newline, illegal_actor}
+use Rattle.gixobj_streams.specs.Writing.{RejectedValue, RejectsNothing, header_with_newline, illegal_actor}
 use Rattle.gixobj_hash.specs.Hash.{encode_id_hex, is_lower_hex_digit}
 use Rattle.gixobj_line.specs.Commit.{before_encoding}
 use Rattle.gixobj_hash.specs.Bytes.{greater_than, less_than, newline}

@@ -5,7 +5,7 @@ use Rattle.gixobj_commit.specs.CommitSigning as commit
 use Rattle.gixobj_commit.specs.CommitViews as commit_views
 use Rattle.gixobj_commit.specs.CommitWriting.{IsOwnedCommitError, encode_commit}
 use Rattle.gixobj_commit.specs.declared.commit.Commit.{Commit}
-use Rattle.gixobj_fields.specs.Writing.{RejectsNothing}
+use Rattle.gixobj_streams.specs.Writing.{RejectsNothing}
 use Rattle.gixobj_hash.specs.Hash.{id_kind}
 use Rattle.gixobj_line.specs.Commit.{CommitLines, IsCommit}
 use Rattle.gixobj_signature.specs.Calls.{Answer, CallView}

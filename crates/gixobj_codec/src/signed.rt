@@ -4,7 +4,7 @@ ghost use Rattle.std.specs.Prelude.{◌≡◌, ℕ, IfErr, IfNone, IfOk, IfSome,
 ghost use Rattle.gixobj_commit.specs.CommitSigning.{IsCommitSigningError, IsSignedCommit, payload_of_commit, with_signature};
 ghost use Rattle.gixobj_commit.specs.CommitViews.{owned_commit_lines};
 ghost use Rattle.gixobj_commit.specs.CommitWriting.{IsOwnedCommitError, encode_commit};
-ghost use Rattle.gixobj_fields.specs.Writing.{RejectsNothing};
+ghost use Rattle.gixobj_streams.specs.Writing.{RejectsNothing};
 ghost use Rattle.gixobj_hash.specs.Hash.{id_kind};
 ghost use Rattle.gixobj_hash.specs.declared.decode.Error.TheVariants.{Malformed};
 ghost use Rattle.gixobj_hash.specs.declared.hash.kind.Kind.{Kind};

@@ -7,3 +7,4 @@ mod MergetagsFound
 pub mod ParentHexes
 mod Reencoding
 mod Reencoded
+mod PartSteps

@@ -10,10 +10,10 @@ use Rattle.gixobj_actor.specs.ActorWriting.{IsUnwritable}
 use Rattle.gixobj_hash.specs.Hash.{DecodesToId, encode_id_hex}
 use Rattle.gixobj_fields.specs.HeaderFormat.{Header}
 use Rattle.gixobj_streams.specs.Streams.{SinkView}
-use Rattle.gixobj_fields.specs.Writing.{RejectedValue, IsWritingError, bad_name, empty_header, header_with_newline, illegal_actor, name_with_dash, name_with_zero_byte}
+use Rattle.gixobj_streams.specs.Writing.{RejectedValue, IsWritingError, bad_name, empty_header, header_with_newline, illegal_actor, name_with_dash, name_with_zero_byte}
 use Rattle.gixobj_hash.specs.declared.decode.Error.TheVariants.{Malformed}
-use Rattle.gixobj_fields.specs.declared.encode.Error.{Error}
-use Rattle.gixobj_fields.specs.declared.encode.Error.TheVariants as encode
+use Rattle.gixobj_streams.specs.declared.encode.Error.{Error}
+use Rattle.gixobj_streams.specs.declared.encode.Error.TheVariants as encode
 use Rattle.gixobj_hash.specs.declared.hash.kind.Kind.{Kind}
 use Rattle.gixobj_hash.specs.declared.hash.object_id.ObjectId.{ObjectId}
 use Rattle.gixobj_hash.proofs.HexCase.{encode_id_hex_lower_case}

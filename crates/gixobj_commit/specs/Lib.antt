@@ -14,7 +14,7 @@ pub use Rattle.gixobj_fields.specs.FieldWriting
 pub use Rattle.gixobj_fields.specs.HeaderReading
 pub use Rattle.gixobj_fields.specs.HeaderFormat
 pub use Rattle.gixobj_streams.specs.Streams
-pub use Rattle.gixobj_fields.specs.Writing
+pub use Rattle.gixobj_streams.specs.Writing
 pub use Rattle.gixobj_hash.specs.Decode
 pub use Rattle.gixobj_hash.specs.Encode
 pub use Rattle.gixobj_hash.specs.Hash

@@ -3,8 +3,8 @@ use Rattle.std.specs.Prelude.{◌≡◌, ◌⊎◌, ℕ, List, [], Some, map}
 use Rattle.std.specs.Str.{str_to_ascii_lowercase}
 use Rattle.gixobj_actor.specs.ActorWriting.{IsCanonical, IsUnwritable}
 use Rattle.gixobj_streams.specs.Streams.{AppendsPrefix, SinkView}
-use Rattle.gixobj_fields.specs.declared.encode.Error.{Error}
-use Rattle.gixobj_fields.specs.declared.encode.Error.TheVariants as error
+use Rattle.gixobj_streams.specs.declared.encode.Error.{Error}
+use Rattle.gixobj_streams.specs.declared.encode.Error.TheVariants as error
 use Rattle.gixobj_line.specs.Commit.{CommitLines}
 
 -- the parts of an owned copy: ids in lower case, actors normalized by their decoder and encoder, all else unchanged

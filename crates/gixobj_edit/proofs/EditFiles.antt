@@ -18,7 +18,7 @@ use Rattle.gixobj_editor.specs.declared.command.Command.{Command}
 use Rattle.gixobj_editor.specs.declared.reply.EditReply.TheVariants as edit_reply
 use Rattle.gixobj_editor.specs.declared.reply.Reply.{Reply}
 use Rattle.gixobj_editor.specs.declared.reply.Reply.TheVariants as reply
-use Rattle.gixobj_fields.specs.declared.encode.Error.{Error}
+use Rattle.gixobj_streams.specs.declared.encode.Error.{Error}
 use Rattle.gixobj_files.proofs.EditedFiles.{same_files_trans}
 use Rattle.gixobj_files.proofs.Histories.{history_congruent}
 use Rattle.gixobj_files.specs.Files.{Files, NamedFiles, SameFiles, Table}

@@ -8,7 +8,7 @@ use Rattle.gixobj_edit.specs.Replies.{AreDone, IsFirstFailure, edit_reply_failur
 use Rattle.gixobj_edit.specs.declared.failure.Failure.{Failure}
 use Rattle.gixobj_editor.specs.declared.reply.EditReply.{EditReply}
 use Rattle.gixobj_editor.specs.declared.reply.Reply.{Reply}
-use Rattle.gixobj_fields.specs.declared.encode.Error.{Error}
+use Rattle.gixobj_streams.specs.declared.encode.Error.{Error}
 
 module _ (replies : List (Reply Error)) (index : ℕ) (it : Reply Error) (within : index < length replies) (is : it ≡ get_or replies index it)
     (done : AreDone (take index replies)) where

@@ -21,7 +21,7 @@ use Rattle.gixobj_editor.specs.declared.command.Edit.TheVariants as edit
 use Rattle.gixobj_editor.specs.declared.reply.EditReply.TheVariants as edit_reply
 use Rattle.gixobj_editor.specs.declared.reply.Reply.{Reply}
 use Rattle.gixobj_editor.specs.declared.reply.Reply.TheVariants as reply
-use Rattle.gixobj_fields.specs.declared.encode.Error.{Error}
+use Rattle.gixobj_streams.specs.declared.encode.Error.{Error}
 use Rattle.gixobj_files.specs.Bases.{HasBases}
 use Rattle.gixobj_files.specs.Files.{Files, NamedFiles, SameFiles, Table}
 use Rattle.gixobj_files.specs.History.{FilesAfter, Step}

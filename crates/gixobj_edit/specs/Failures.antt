@@ -5,8 +5,8 @@ use Rattle.gixobj_edit.specs.declared.failure.Failure.{Failure}
 use Rattle.gixobj_edit.specs.declared.failure.Failure.TheVariants as failure
 use Rattle.gixobj_editor.specs.declared.editor.error.Error.{Error}
 use Rattle.gixobj_editor.specs.declared.editor.error.Error.TheVariants as editing
-use Rattle.gixobj_fields.specs.declared.encode.Error as encode
-use Rattle.gixobj_fields.specs.declared.encode.Error.TheVariants as encode_error
+use Rattle.gixobj_streams.specs.declared.encode.Error as encode
+use Rattle.gixobj_streams.specs.declared.encode.Error.TheVariants as encode_error
 use Rattle.gixobj_hash.specs.declared.decode.Error.TheVariants as decode
 use Rattle.gixobj_keep.specs.declared.find.existing_object.Error as existing
 use Rattle.gixobj_keep.specs.declared.find.existing_object.Error.TheVariants as object

@@ -8,7 +8,7 @@ use Rattle.gixobj_editor.specs.declared.reply.EditReply.{EditReply}
 use Rattle.gixobj_editor.specs.declared.reply.EditReply.TheVariants as edit_reply
 use Rattle.gixobj_editor.specs.declared.reply.Reply.{Reply}
 use Rattle.gixobj_editor.specs.declared.reply.Reply.TheVariants as reply
-use Rattle.gixobj_fields.specs.declared.encode.Error.{Error}
+use Rattle.gixobj_streams.specs.declared.encode.Error.{Error}
 use Rattle.gixobj_hash.specs.declared.hash.object_id.ObjectId.{ObjectId}
 
 -- the failure of an edit or a write by its reply, or none if it is done

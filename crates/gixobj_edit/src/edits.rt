@@ -7,7 +7,7 @@ ghost use Rattle.gixobj_edit.specs.Replies.{AreDone, EndsInWrite};
 ghost use Rattle.gixobj_editor.specs.declared.reply.EditReply.TheVariants as edit_reply;
 ghost use Rattle.gixobj_editor.specs.declared.reply.Reply.{Reply};
 ghost use Rattle.gixobj_editor.specs.declared.reply.Reply.TheVariants as reply;
-ghost use Rattle.gixobj_fields.specs.declared.encode.Error.{Error};
+ghost use Rattle.gixobj_streams.specs.declared.encode.Error.{Error};
 ghost use Rattle.gixobj_hash.specs.Hash.{id_bytes};
 ghost use Rattle.gixobj_tree.specs.TreeEncoding.{IsDigestResult};
 ghost use Rattle.gixobj_edit.specs.declared.failure.Failure.TheVariants as failure;

@@ -15,7 +15,7 @@ use Rattle.gixobj_fields.specs.HeaderFormat.{encode_field, encode_continuation, 
 use Rattle.gixobj_hash.specs.ByteStrings.{IsByteFree, SplitsAt}
 use Rattle.gixobj_streams.specs.Streams.{AppendsAll, AppendsPrefix, SinkView}
 use Rattle.std.specs.declared.io.Error as io
-use Rattle.gixobj_fields.specs.Writing.{RejectsNothing}
+use Rattle.gixobj_streams.specs.Writing.{RejectsNothing}
 use Rattle.gixobj_streams.proofs.Appends.{appends_prefix_middle}
 use Rattle.gixobj_fields.specs.FieldWriting.{IsLastLine, IsFieldError, folded, value_lines}
 

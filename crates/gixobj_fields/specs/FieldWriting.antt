@@ -3,7 +3,7 @@ use Rattle.std.specs.Prelude.{◌≡◌, ◌⊎◌, ℕ, List, [], ◌∷◌, �
 use Rattle.std.specs.List.{count_by, flat_map}
 use Rattle.gixobj_hash.specs.ByteStrings.{IsByteFree}
 use Rattle.gixobj_fields.specs.HeaderFormat.{Header, encode_continuation, encode_line}
-use Rattle.gixobj_fields.specs.Writing.{RejectedValue, empty_header, header_with_newline}
+use Rattle.gixobj_streams.specs.Writing.{RejectedValue, empty_header, header_with_newline}
 use Rattle.gixobj_hash.specs.Bytes.{newline, space}
 
 -- the lines of a value without their newlines: the first line, and the lines after it; a final newline ends the last

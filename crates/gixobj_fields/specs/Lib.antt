@@ -4,7 +4,6 @@ pub mod HeaderFormat
 pub mod Iterators
 pub mod StreamHash
 pub use Rattle.gixobj_streams.specs.Streams
-pub mod Writing
 pub use Rattle.gixobj_hash.specs.Bytes
 pub use Rattle.gixobj_hash.specs.Decode
 pub use Rattle.gixobj_hash.specs.Encode
@@ -12,3 +11,4 @@ pub use Rattle.gixobj_hash.specs.Hash
 pub use Rattle.gixobj_hash.specs.Kind
 pub use Rattle.gixobj_hash.specs.ByteStrings
 pub use Rattle.gixobj_hash.specs.Runs
+pub use Rattle.gixobj_streams.specs.Writing

@@ -1,5 +1,4 @@
-//! Encoding of header fields, and the errors of object writers (gitdatamodel, "commits";
-//! gitformat-signature, "Commit signatures").
+//! Encoding of header fields (gitdatamodel, "commits"; gitformat-signature, "Commit signatures").
 ghost use Rattle.std.specs.Prelude.{◌≡◌, ◌<◌, ◌≤◌, ◌+◌, ◌^◌, ◌++◌, ◌∷◌, [], length, IfErr, MatchOption, OnOk};
 ghost use Rattle.std.specs.Option.{SomeIff};
 ghost use Rattle.std.specs.Str.{str_to_ascii_lowercase};
@@ -7,105 +6,16 @@ ghost use Rattle.gixobj_hash.specs.Hash.{encode_id_hex};
 ghost use Rattle.gixobj_fields.specs.FieldWriting.{IsLastLine, IsFieldError, folded, newlines};
 ghost use Rattle.gixobj_fields.specs.HeaderFormat.{encode_field};
 ghost use Rattle.gixobj_streams.specs.Streams.{AppendsAll, AppendsOrFails};
-ghost use Rattle.gixobj_fields.specs.Writing.{AddsSize, IsWritingError, LacksRoom, RejectsNothing};
+ghost use Rattle.gixobj_streams.specs.Writing.{AddsSize, IsWritingError, LacksRoom, RejectsNothing};
 ghost use Rattle.gixobj_hash.specs.Bytes.{newline, space};
 
 use bstr::BString;
 use gixobj_hash::hash::ObjectId;
 use gixobj_hash::split::{has_byte, split_at_byte};
+pub use gixobj_streams::encode::{Error, RefNameFault};
 use gixobj_streams::streams::Sink;
 use std::alloc::{AllocError, Global};
 use std::io;
-
-/// The error of a writer of objects, such as [`WriteTo::write_to`](crate::WriteTo::write_to).
-///
-/// At [`Error::Writer`] a proper prefix of the encoding has been written. At any other error exactly the
-/// parts before the rejected value have been written.
-#[derive(Debug, Drop, thiserror::Error)]
-pub enum Error {
-    /// The writer failed.
-    #[error("the writer failed: {0}")]
-    Writer(io::Error),
-    /// The value of a single-line header has a newline.
-    #[error("a header value with a newline: {value:?}")]
-    NewlineInHeaderValue {
-        /// The rejected value.
-        value: BString,
-    },
-    /// The value of a header is empty.
-    #[error("an empty header value")]
-    EmptyValue,
-    /// The name of a tag begins with `-`.
-    #[error("the name of a tag begins with `-`")]
-    StartsWithDash,
-    /// The name of a tag is invalid as the name of a reference.
-    #[error("the name of a tag: {0}")]
-    InvalidRefName(RefNameFault),
-    /// The name of a tree's entry has a zero byte, which would end the name.
-    #[error("a file name with a zero byte: {name:?}")]
-    NullbyteInFilename {
-        /// The rejected name.
-        name: BString,
-    },
-    /// The name or the email of an actor has a `<`, a `>` or a newline.
-    #[error("a name or an email with `<`, `>` or a newline")]
-    IllegalActor,
-    /// The allocation of a copy of the rejected value failed.
-    #[error("out of memory")]
-    OutOfMemory,
-}
-
-/// Why a name is invalid as the name of a reference (`git-check-ref-format`).
-#[derive(Clone, Copy, Debug, PartialEq, Eq, thiserror::Error)]
-pub enum RefNameFault {
-    /// The name is empty.
-    #[error("it is empty")]
-    Empty,
-    /// A component, between slashes, begins with `.`.
-    #[error("a part begins with `.`")]
-    DotStart,
-    /// A component ends with `.lock`.
-    #[error("a part ends with `.lock`")]
-    LockSuffix,
-    /// The name has two consecutive dots.
-    #[error("it has `..`")]
-    DoubleDot,
-    /// The name has the sequence `@{`.
-    #[error("it has `@` before an opening brace")]
-    AtBrace,
-    /// The name has a backslash.
-    #[error("it has a backslash")]
-    Backslash,
-    /// The name has a byte below 32, byte 127, a space, or one of `~^:?*[`.
-    #[error("it has a control character, a space or one of `~^:?*[`")]
-    InvalidByte,
-    /// The name begins or ends with `/`, or has consecutive slashes.
-    #[error("a `/` is first, last or doubled")]
-    BadSlash,
-    /// The name ends with `.`.
-    #[error("it ends with `.`")]
-    DotEnd,
-}
-
-impl From<io::Error> for Error {
-    ghost use Rattle.gixobj_fields.specs.declared.encode.Error.TheVariants.{Writer};
-
-    ghost from_gives = { λ cause error. error ≡ Writer cause };
-
-    fn from(error: io::Error) -> Error {
-        Error::Writer(error)
-    }
-}
-
-impl From<AllocError> for Error {
-    ghost use Rattle.gixobj_fields.specs.declared.encode.Error.TheVariants.{OutOfMemory};
-
-    ghost from_gives = { λ _ error. error ≡ OutOfMemory };
-
-    fn from(_: AllocError) -> Error {
-        Error::OutOfMemory
-    }
-}
 
 /// Appends a single-line field: the name, a space, the value and a newline (gitdatamodel, "commits").
 ///

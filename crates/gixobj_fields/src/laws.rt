@@ -2,8 +2,8 @@
 ghost use Rattle.std.specs.Prelude.{◌≡◌, ℕ, List};
 ghost use Rattle.gixobj_fields.specs.FieldWriting.{encode_header};
 ghost use Rattle.gixobj_streams.specs.Streams.{SinkView};
-ghost use Rattle.gixobj_fields.specs.Writing.{FailsAsSink, RejectsNothing, IsWritingError};
-ghost use Rattle.gixobj_fields.specs.declared.encode.Error.{Error};
+ghost use Rattle.gixobj_streams.specs.Writing.{FailsAsSink, RejectsNothing, IsWritingError};
+ghost use Rattle.gixobj_streams.specs.declared.encode.Error.{Error};
 ghost use Rattle.gixobj_fields.specs.HeaderFormat.{BeginsWithField, BeginsWithHeader, Header, DecodesToHeader};
 
 use crate::WriteTo;

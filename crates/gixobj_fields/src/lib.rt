@@ -6,7 +6,6 @@ pub mod encode;
 pub mod laws;
 pub mod parse;
 pub mod pieces;
-pub mod short;
 pub mod stream_hash;
 pub mod traits;
 

@@ -5,7 +5,7 @@ ghost use Rattle.std.specs.Option.{SomeIff};
 ghost use Rattle.gixobj_hash.specs.Encode.{encode_loose_header};
 ghost use Rattle.gixobj_hash.specs.Hash.{id_of};
 ghost use Rattle.gixobj_streams.specs.Streams.{AppendsAll, list_view, writer_view};
-ghost use Rattle.gixobj_fields.specs.Writing.{IsEncodingError, IsSize, IsWritingError, LacksRoom, RejectsNothing};
+ghost use Rattle.gixobj_streams.specs.Writing.{IsEncodingError, IsSize, IsWritingError, LacksRoom, RejectsNothing};
 
 use crate::encode;
 use gixobj_hash::digest::compute_hash;
@@ -23,7 +23,7 @@ use std::io::Write;
 /// calls write through [`WriteTo::write_into`].
 pub trait WriteTo {
     ghost use Rattle.std.specs.Prelude.{ℕ, List, ⊤};
-    ghost use Rattle.gixobj_fields.specs.Writing.{RejectedValue};
+    ghost use Rattle.gixobj_streams.specs.Writing.{RejectedValue};
     ghost use Rattle.gixobj_hash.specs.declared.kind.Kind.{Kind};
 
     /// The precondition of the calls that write. It is true by default. A type with public fields that
@@ -127,7 +127,7 @@ pub trait WriteTo {
     ///     Ok((compute_hash(HashKind::Sha1, Kind::Commit, &bytes), bytes))
     /// }
     /// ```
-    #[tactic(auto, using(crate::proofs::Errors::rejects_with_more_room, crate::proofs::Errors::lacks_room_with_more_room))]
+    #[tactic(auto, using(gixobj_streams::proofs::Errors::rejects_with_more_room, gixobj_streams::proofs::Errors::lacks_room_with_more_room))]
     final fn write_to_vec(&self, alloc: Global, out: &mut Vec<u8>) -> Result<(), encode::Error>
         requires { can_write self.now }
         ensures written { OnOk result (out.new.items ≡ out.old.items ++ encoding self.now) }

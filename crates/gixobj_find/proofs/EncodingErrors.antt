@@ -3,8 +3,8 @@ use Rattle.std.proofs.Common.{◌≡◌, ℕ, Err, List, [], refl}
 use Rattle.std.specs.declared.alloc.Global.{Global}
 use Rattle.std.specs.declared.vec.Vec.{Vec}
 use Rattle.gixobj_streams.specs.Streams.{list_view}
-use Rattle.gixobj_fields.specs.Writing.{IsWritingError, RejectedValue}
-use Rattle.gixobj_fields.specs.declared.encode.Error as encode
+use Rattle.gixobj_streams.specs.Writing.{IsWritingError, RejectedValue}
+use Rattle.gixobj_streams.specs.declared.encode.Error as encode
 use Rattle.gixobj_keep.specs.declared.write.Error.TheVariants.{Encode}
 use Rattle.gixobj_find.specs.Writers.{CannotEncode}
 

@@ -3,8 +3,8 @@ use Rattle.std.specs.Prelude.{◌≡◌, ◌⊎◌, ℕ, Err, List, [], Option, 
 use Rattle.std.specs.declared.alloc.Global.{Global}
 use Rattle.std.specs.declared.vec.Vec.{Vec}
 use Rattle.gixobj_streams.specs.Streams.{list_view}
-use Rattle.gixobj_fields.specs.Writing.{RejectedValue, RejectsNothing, IsWritingError}
-use Rattle.gixobj_fields.specs.declared.encode.Error as encode
+use Rattle.gixobj_streams.specs.Writing.{RejectedValue, RejectsNothing, IsWritingError}
+use Rattle.gixobj_streams.specs.declared.encode.Error as encode
 use Rattle.gixobj_hash.specs.declared.hash.object_id.ObjectId.{ObjectId}
 use Rattle.gixobj_hash.specs.declared.kind.Kind.{Kind}
 use Rattle.gixobj_keep.specs.declared.write.Error.{Error}

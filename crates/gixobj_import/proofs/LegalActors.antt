@@ -11,7 +11,7 @@ use Rattle.gixobj_actor.specs.declared.actor.Signature.{Signature}
 use Rattle.gixobj_commit.specs.CommitViews.{owned_commit_lines}
 use Rattle.gixobj_commit.specs.CommitWriting.{IsMessageEncodingError, IsOwnedCommitError, before_author, before_committer}
 use Rattle.gixobj_commit.specs.declared.commit.Commit.{Commit}
-use Rattle.gixobj_fields.specs.Writing.{RejectsNothing, illegal_actor}
+use Rattle.gixobj_streams.specs.Writing.{RejectsNothing, illegal_actor}
 use Rattle.gixobj_hash.specs.Hash.{encode_id_hex}
 use Rattle.gixobj_hash.specs.Hash.Hex.{IsIdHexOfKind}
 use Rattle.gixobj_hash.specs.declared.hash.kind.Kind as hash

@@ -4,7 +4,7 @@ use Rattle.gixobj_actor.specs.ActorWriting.{IsLegal, encode_owned_actor}
 use Rattle.gixobj_editor.specs.declared.command.Edit.{Edit}
 use Rattle.gixobj_editor.specs.declared.command.Edit.TheVariants as edit
 use Rattle.gixobj_directories.specs.declared.write.Written.{Written}
-use Rattle.gixobj_fields.specs.declared.encode.Error.TheVariants.{IllegalActor}
+use Rattle.gixobj_streams.specs.declared.encode.Error.TheVariants.{IllegalActor}
 use Rattle.gixobj_files.specs.State.{State, with_store}
 use Rattle.gixobj_hash.specs.Hash.{encode_id_hex, id_of}
 use Rattle.gixobj_hash.specs.Hash.Hex.{IsIdHexOfKind}

@@ -4,9 +4,9 @@ use Rattle.std.specs.FinMap as finite
 use Rattle.bstr.specs.Owned.{bstring_bytes}
 use Rattle.gixobj_store.specs.Stores.{Objects, StoredObject}
 use Rattle.gixobj_fields.specs.StreamHash.{IsStreamError}
-use Rattle.gixobj_fields.specs.Writing.{RejectedValue, IsEncodingError}
-use Rattle.gixobj_fields.specs.declared.encode.Error.{Error}
-use Rattle.gixobj_fields.specs.declared.encode.Error.TheVariants.{OutOfMemory, Writer}
+use Rattle.gixobj_streams.specs.Writing.{RejectedValue, IsEncodingError}
+use Rattle.gixobj_streams.specs.declared.encode.Error.{Error}
+use Rattle.gixobj_streams.specs.declared.encode.Error.TheVariants.{OutOfMemory, Writer}
 use Rattle.gixobj_keep.specs.declared.keeping.KeepError.{KeepError}
 use Rattle.gixobj_keep.specs.declared.keeping.KeepError.TheVariants as keep
 use Rattle.gixobj_hash.specs.declared.hash.object_id.ObjectId.{ObjectId}

@@ -4,7 +4,7 @@ use Rattle.std.specs.Prelude.{◌≡◌, ◌≢◌, ℕ, List, [], ⊤}
 use Rattle.gixobj_commit.specs.CommitOwned.{IsOwnedFormOfCommit as IsOwnedCommit, IsIntoOwnedCommitError}
 use Rattle.gixobj_commit.specs.CommitViews.{BorrowsOneLineValues, commit_lines}
 use Rattle.gixobj_commit.specs.CommitWriting.{HasIds, IsCommitLinesError, encode_commit, in_lower_case}
-use Rattle.gixobj_fields.specs.Writing.{RejectedValue}
+use Rattle.gixobj_streams.specs.Writing.{RejectedValue}
 use Rattle.gixobj_hash.specs.Hash.{IsIdHex}
 use Rattle.gixobj_hash.specs.declared.decode.Error.{Error}
 use Rattle.gixobj_hash.specs.declared.decode.Error.TheVariants.{OutOfMemory}

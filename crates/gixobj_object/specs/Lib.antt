@@ -8,7 +8,7 @@ pub use Rattle.gixobj_commit.specs.CommitOwned
 pub use Rattle.gixobj_commit.specs.CommitViews
 pub use Rattle.gixobj_commit.specs.CommitWriting
 pub use Rattle.gixobj_streams.specs.Streams
-pub use Rattle.gixobj_fields.specs.Writing
+pub use Rattle.gixobj_streams.specs.Writing
 pub use Rattle.gixobj_hash.specs.Decode
 pub use Rattle.gixobj_hash.specs.Encode
 pub use Rattle.gixobj_hash.specs.Hash

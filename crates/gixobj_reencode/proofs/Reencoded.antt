@@ -8,9 +8,9 @@ use Rattle.gixobj_reencode.specs.Reencoding.{Allocates, IsFailure, IsReencodeCal
 use Rattle.gixobj_reencode.specs.declared.reencoding.Failure.{Failure}
 use Rattle.gixobj_reencode.specs.declared.reencoding.Failure.TheVariants as failure
 use Rattle.gixobj_streams.specs.Streams.{SinkView}
-use Rattle.gixobj_fields.specs.Writing.{IsWritingError, RejectedValue, StopsAt}
-use Rattle.gixobj_fields.specs.declared.encode.Error.{Error}
-use Rattle.gixobj_fields.specs.declared.encode.Error.TheVariants as error
+use Rattle.gixobj_streams.specs.Writing.{IsWritingError, RejectedValue, StopsAt}
+use Rattle.gixobj_streams.specs.declared.encode.Error.{Error}
+use Rattle.gixobj_streams.specs.declared.encode.Error.TheVariants as error
 use Rattle.gixobj_hash.specs.declared.decode.Error as decoding
 use Rattle.gixobj_hash.specs.declared.decode.Error.TheVariants as decode
 use Rattle.gixobj_hash.specs.declared.hash.kind.Kind as hash

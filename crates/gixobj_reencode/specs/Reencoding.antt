@@ -5,9 +5,9 @@ use Rattle.gixobj_calls.specs.Codes.{malformed, not_encodable, out_of_memory, un
 use Rattle.gixobj_reencode.specs.declared.reencoding.Failure.{Failure}
 use Rattle.gixobj_reencode.specs.declared.reencoding.Failure.TheVariants as failure
 use Rattle.gixobj_commit.specs.CommitWriting.{IsCommitLinesError, encode_commit, in_lower_case}
-use Rattle.gixobj_fields.specs.Writing.{RejectedValue}
-use Rattle.gixobj_fields.specs.declared.encode.Error as encode
-use Rattle.gixobj_fields.specs.declared.encode.Error.TheVariants as encode_error
+use Rattle.gixobj_streams.specs.Writing.{RejectedValue}
+use Rattle.gixobj_streams.specs.declared.encode.Error as encode
+use Rattle.gixobj_streams.specs.declared.encode.Error.TheVariants as encode_error
 use Rattle.gixobj_hash.specs.declared.decode.Error.{Error}
 use Rattle.gixobj_hash.specs.declared.decode.Error.TheVariants as error
 use Rattle.gixobj_hash.specs.declared.hash.kind.Kind as hash

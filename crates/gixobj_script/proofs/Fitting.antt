@@ -6,7 +6,7 @@ use Rattle.std.specs.FinMap as finite
 use Rattle.gixobj_editor.specs.declared.command.Command.{Command}
 use Rattle.gixobj_store.specs.Stores.{Objects, StoredObject, named}
 use Rattle.gixobj_directories.specs.Openings.{AreTreesOf}
-use Rattle.gixobj_fields.specs.declared.encode.Error.{Error}
+use Rattle.gixobj_streams.specs.declared.encode.Error.{Error}
 use Rattle.gixobj_files.specs.Files.{Trees}
 use Rattle.gixobj_files.specs.State.{State}
 use Rattle.gixobj_files.specs.Tables.{IsConsistentWith}

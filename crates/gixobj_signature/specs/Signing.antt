@@ -4,7 +4,7 @@ use Rattle.std.specs.List.{list_any, starts_with}
 use Rattle.bstr.specs.Owned.{bstring_bytes}
 use Rattle.bstr.specs.Text.{lines_of, without_terminator}
 use Rattle.bstr.specs.declared.bstring.BString.{BString}
-use Rattle.gixobj_fields.specs.declared.encode.Error as encode
+use Rattle.gixobj_streams.specs.declared.encode.Error as encode
 use Rattle.gixobj_hash.specs.declared.decode.Error as decode
 use Rattle.gixobj_hash.specs.Bytes.{newline}
 use Rattle.gixobj_report.specs.Fields.{after_prefix, either}

@@ -1,2 +1,3 @@
 pub mod Appends
 pub mod Concatenations
+pub mod Errors

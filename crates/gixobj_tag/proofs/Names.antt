@@ -10,8 +10,8 @@ use Rattle.std.proofs.lemmas.Slice.Eq.{ends_is, starts_is}
 use Rattle.std.specs.List.{AllByRecursion, ends_with, starts_with}
 use Rattle.std.specs.Prelude.{◌↔◌, ◌⊎◌, ◌==◌, All, IsTrue, codes, nat_eq}
 use Rattle.bstr.specs.Text.{Contains as Occurs}
-use Rattle.gixobj_fields.specs.declared.encode.RefNameFault.{RefNameFault}
-use Rattle.gixobj_fields.specs.declared.encode.RefNameFault.TheVariants as fault
+use Rattle.gixobj_streams.specs.declared.encode.RefNameFault.{RefNameFault}
+use Rattle.gixobj_streams.specs.declared.encode.RefNameFault.TheVariants as fault
 use Rattle.gixobj_tag.specs.NameRule.{BeginsWith, EndsWith, HasFault, Holds, IsFirstFault, IsForbidden, IsTagName, IsTagNameError, faults}
 use Rattle.gixobj_tag.specs.declared.name.Error.{Error}
 use Rattle.gixobj_tag.specs.declared.name.Error.TheVariants.{InvalidRefName, StartsWithDash}

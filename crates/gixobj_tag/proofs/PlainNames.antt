@@ -7,7 +7,7 @@ use Rattle.std.proofs.lemmas.List.{append-nil, at_drop_all, at_drop_more}
 use Rattle.std.proofs.lemmas.List.Elements.{All-cons, All-contains, All-from_recursion, All-head, All-nil, All-tail, Contains-append_left, Contains-append_right}
 use Rattle.std.specs.List.{ends_with}
 use Rattle.std.specs.Prelude.{◌↔◌, ◌⊎◌, ◌==◌, ◌&&◌, ◌||◌, All, Contains, IsTrue, codes, nat_eq, not}
-use Rattle.gixobj_fields.specs.declared.encode.RefNameFault.TheVariants as fault
+use Rattle.gixobj_streams.specs.declared.encode.RefNameFault.TheVariants as fault
 use Rattle.gixobj_hash.specs.Bytes.{slash}
 use Rattle.gixobj_tag.proofs.Names.{dot_start_cases, ends_with_iff, lock_suffix_cases}
 use Rattle.gixobj_tag.specs.NameRule.{EndsWith, HasNoFault, Holds, IsForbidden, backslash}

@@ -1,10 +1,10 @@
 -- The names that a tag may have (git-check-ref-format, "DESCRIPTION"; git-tag, "<tagname>"). A name is what follows
 -- `refs/tags/` in that of the reference, so `@` alone is one.
 use Rattle.std.specs.Prelude.{◌≡◌, ◌<◌, ◌⊎◌, ℕ, List, [], ◌∷◌, ◌++◌, All, Contains, codes}
-use Rattle.gixobj_fields.specs.declared.encode.Error.{Error as WriterError}
-use Rattle.gixobj_fields.specs.declared.encode.Error.TheVariants as writer
-use Rattle.gixobj_fields.specs.declared.encode.RefNameFault.{RefNameFault}
-use Rattle.gixobj_fields.specs.declared.encode.RefNameFault.TheVariants as fault
+use Rattle.gixobj_streams.specs.declared.encode.Error.{Error as WriterError}
+use Rattle.gixobj_streams.specs.declared.encode.Error.TheVariants as writer
+use Rattle.gixobj_streams.specs.declared.encode.RefNameFault.{RefNameFault}
+use Rattle.gixobj_streams.specs.declared.encode.RefNameFault.TheVariants as fault
 use Rattle.gixobj_tag.specs.declared.name.Error.{Error}
 use Rattle.gixobj_tag.specs.declared.name.Error.TheVariants.{InvalidRefName, StartsWithDash}
 use Rattle.gixobj_hash.specs.Bytes.{slash}

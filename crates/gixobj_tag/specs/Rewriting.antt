@@ -3,8 +3,8 @@ use Rattle.std.specs.Prelude.{◌≡◌, ◌⊎◌, ℕ, List, IsFalse, Option, 
 use Rattle.std.specs.Str.{str_to_ascii_lowercase}
 use Rattle.gixobj_actor.specs.ActorWriting.{IsCanonical, IsUnwritable}
 use Rattle.gixobj_streams.specs.Streams.{AppendsPrefix, SinkView}
-use Rattle.gixobj_fields.specs.declared.encode.Error.{Error}
-use Rattle.gixobj_fields.specs.declared.encode.Error.TheVariants as error
+use Rattle.gixobj_streams.specs.declared.encode.Error.{Error}
+use Rattle.gixobj_streams.specs.declared.encode.Error.TheVariants as error
 use Rattle.gixobj_tag.specs.NameRule.{BeginsWithDash, HasNoFault, IsFirstFault}
 use Rattle.gixobj_tag.specs.TagFormat.{TagLines}
 use Rattle.gixobj_tokens.specs.TagBodies.{are_newlines}

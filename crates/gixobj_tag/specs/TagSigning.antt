@@ -1,7 +1,7 @@
 -- Signing of tags (gitformat-signature, "Tag signatures").
 use Rattle.std.specs.Prelude.{◌≡◌, ◌⊎◌, ℕ, List, [], ◌∷◌, ◌++◌, Option, Some, None}
-use Rattle.gixobj_fields.specs.Writing.{IsEncodingError, RejectsNothing}
-use Rattle.gixobj_fields.specs.declared.encode.Error as encode
+use Rattle.gixobj_streams.specs.Writing.{IsEncodingError, RejectsNothing}
+use Rattle.gixobj_streams.specs.declared.encode.Error as encode
 use Rattle.gixobj_hash.specs.declared.decode.Error as decode
 use Rattle.gixobj_signature.specs.Calls.{Answer, CallView}
 use Rattle.gixobj_signature.specs.Plans.{CarriesOut, IsCarriedOut}

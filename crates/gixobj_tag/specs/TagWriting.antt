@@ -4,8 +4,8 @@ use Rattle.std.specs.Prelude.{◌≡◌, ◌⊎◌, ℕ, List, [], ◌∷◌, �
 use Rattle.gixobj_actor.specs.ActorWriting.{IsActorFieldError}
 use Rattle.gixobj_actor.specs.declared.actor.Signature.{Signature}
 use Rattle.gixobj_fields.specs.HeaderFormat.{encode_field}
-use Rattle.gixobj_fields.specs.Writing.{RejectedValue, bad_name, name_with_dash}
-use Rattle.gixobj_fields.specs.declared.encode.RefNameFault.{RefNameFault}
+use Rattle.gixobj_streams.specs.Writing.{RejectedValue, bad_name, name_with_dash}
+use Rattle.gixobj_streams.specs.declared.encode.RefNameFault.{RefNameFault}
 use Rattle.gixobj_hash.specs.Kind.{kind_name}
 use Rattle.gixobj_hash.specs.declared.kind.Kind.{Kind}
 use Rattle.gixobj_tag.specs.NameRule.{BeginsWithDash, HasNoFault, IsFirstFault, IsTagName}

@@ -10,13 +10,13 @@ use Rattle.gixobj_tree.specs.TreeEncoding.{IsEntryEncodeError, IsTreeEncodeError
 use Rattle.gixobj_tree.specs.TreeSizes.{encode_mode_and_name, with_ids}
 use Rattle.gixobj_streams.specs.Streams.{AppendsAll, AppendsPrefix, SinkView}
 use Rattle.std.specs.declared.io.Error as io
-use Rattle.gixobj_fields.specs.Writing.{IsWritingError, LacksRoom, RejectedValue}
-use Rattle.gixobj_fields.specs.declared.encode.Error.{Error}
-use Rattle.gixobj_fields.specs.declared.encode.Error.TheVariants.{OutOfMemory}
+use Rattle.gixobj_streams.specs.Writing.{IsWritingError, LacksRoom, RejectedValue}
+use Rattle.gixobj_streams.specs.declared.encode.Error.{Error}
+use Rattle.gixobj_streams.specs.declared.encode.Error.TheVariants.{OutOfMemory}
 use Rattle.gixobj_hash.specs.Hash.{id_bytes}
 use Rattle.gixobj_mode.specs.Mode.{encode_mode}
 use Rattle.gixobj_streams.proofs.Appends.{appends_prefix_first, appends_prefix_append, appends_all_append}
-use Rattle.gixobj_fields.proofs.Errors.{lacks_room_after, writing_error_within}
+use Rattle.gixobj_streams.proofs.Errors.{lacks_room_after, writing_error_within}
 
 -- no name has a zero byte
 abbrev pub AreFree : List EntryView → Type 0

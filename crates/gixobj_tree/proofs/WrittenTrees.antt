@@ -3,7 +3,7 @@
 use Rattle.std.proofs.Common.{◌≡◌, ◌<◌, ◌+◌, ◌++◌, ◌∷◌, ℕ, List, [], All, ap, append_assoc, arith, get_or, length, length-append, map, refl, subst, sym, take, ◌∙◌}
 use Rattle.std.proofs.lemmas.List.Elements.{All-cons, All-head, All-nil, All-tail}
 use Rattle.std.specs.List.{AllZip, concat}
-use Rattle.gixobj_fields.specs.Writing.{RejectsNothing}
+use Rattle.gixobj_streams.specs.Writing.{RejectsNothing}
 use Rattle.gixobj_hash.specs.Hash.{id_bytes}
 use Rattle.gixobj_hash.specs.declared.hash.kind.Kind.{Kind}
 use Rattle.gixobj_hash.specs.ByteStrings.{IsByteFree}

@@ -9,7 +9,7 @@ pub use Rattle.gixobj_entries.specs.KeyOrder
 pub use Rattle.gixobj_entries.specs.TreeDecoding
 pub use Rattle.gixobj_hash.specs.Runs
 pub use Rattle.gixobj_streams.specs.Streams
-pub use Rattle.gixobj_fields.specs.Writing
+pub use Rattle.gixobj_streams.specs.Writing
 pub use Rattle.gixobj_hash.specs.Decode
 pub use Rattle.gixobj_hash.specs.Encode
 pub use Rattle.gixobj_hash.specs.Hash

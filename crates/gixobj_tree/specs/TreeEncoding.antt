@@ -8,8 +8,8 @@ use Rattle.gixobj_hash.specs.declared.hash.object_id.ObjectId.{ObjectId}
 use Rattle.gixobj_hash.specs.declared.kind.Kind.TheVariants.{Tree}
 use Rattle.gixobj_mode.specs.Mode.{encode_mode}
 use Rattle.gixobj_hash.specs.ByteStrings.{IsByteFree}
-use Rattle.gixobj_fields.specs.Writing.{IsEncodingError, RejectedValue, RejectsNothing, name_with_zero_byte}
-use Rattle.gixobj_fields.specs.declared.encode.Error.{Error}
+use Rattle.gixobj_streams.specs.Writing.{IsEncodingError, RejectedValue, RejectsNothing, name_with_zero_byte}
+use Rattle.gixobj_streams.specs.declared.encode.Error.{Error}
 use Rattle.gixobj_hash.specs.Bytes.{space}
 
 -- the bytes of an entry before its name: the mode and a space

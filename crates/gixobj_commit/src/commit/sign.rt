@@ -5,7 +5,7 @@ ghost use Rattle.gixobj_commit.specs.CommitSigning.{GetsCommitSignature, IsSigne
 ghost use Rattle.gixobj_commit.specs.CommitViews.{commit_lines, owned_commit_lines};
 ghost use Rattle.gixobj_commit.specs.CommitWriting.{HasIds, IsOwnedCommitError, encode_commit};
 ghost use Rattle.gixobj_fields.specs.HeaderReading.{owned_header_of};
-ghost use Rattle.gixobj_fields.specs.Writing.{RejectsNothing};
+ghost use Rattle.gixobj_streams.specs.Writing.{RejectsNothing};
 ghost use Rattle.gixobj_signature.specs.Plans.{IsCarriedOut};
 ghost use Rattle.gixobj_signature.specs.Signing.{sign_options_view, sign_plan, signer_error};
 

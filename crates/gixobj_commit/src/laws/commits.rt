@@ -4,8 +4,8 @@ ghost use Rattle.std.specs.Prelude.{◌≡◌, ◌≢◌, ◌<◌, ◌+◌, ◌+
 ghost use Rattle.std.specs.List.{AllPass};
 ghost use Rattle.gixobj_hash.specs.Hash.{is_lower_hex_digit};
 ghost use Rattle.gixobj_streams.specs.Streams.{SinkView, list_view};
-ghost use Rattle.gixobj_fields.specs.Writing.{FailsAsSink, RejectsNothing, IsWritingError};
-ghost use Rattle.gixobj_fields.specs.declared.encode.Error.{Error};
+ghost use Rattle.gixobj_streams.specs.Writing.{FailsAsSink, RejectsNothing, IsWritingError};
+ghost use Rattle.gixobj_streams.specs.declared.encode.Error.{Error};
 ghost use Rattle.gixobj_hash.specs.declared.decode.Error.TheVariants.{Malformed};
 ghost use Rattle.gixobj_hash.specs.declared.hash.kind.Kind.{Kind};
 ghost use Rattle.gixobj_line.specs.Commit.{CommitLines, DecodesToCommit};

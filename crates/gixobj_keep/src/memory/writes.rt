@@ -2,7 +2,7 @@
 ghost use Rattle.std.specs.Prelude.{◌≡◌, ℕ, List, IfErr, IfOk, OnErr, OnOk, ⊤};
 ghost use Rattle.std.specs.FinMap as map;
 ghost use Rattle.gixobj_fields.specs.StreamHash.{ReadsExactly};
-ghost use Rattle.gixobj_fields.specs.Writing.{RejectsNothing};
+ghost use Rattle.gixobj_streams.specs.Writing.{RejectsNothing};
 ghost use Rattle.gixobj_hash.specs.Hash.{id_kind, id_of};
 ghost use Rattle.gixobj_keep.specs.Memory.{IsContentError, IsMemoryWriteError, memory_objects};
 ghost use Rattle.gixobj_keep.specs.declared.write.Error.TheVariants as write_error;

@@ -11,8 +11,8 @@ mod calls;
 use crate::signature::{RunError, Runner};
 use bstr::{BString, ByteSlice};
 use calls::{gpg_call_of, ssh_call_of};
-use gixobj_fields::encode;
 use gixobj_hash::{OutOfMemory, decode};
+use gixobj_streams::encode;
 use gixobj_text::signature::Format;
 use std::alloc::Global;
 

@@ -2,8 +2,8 @@
 //! The others do nothing, and their contract is the law.
 ghost use Rattle.std.specs.Prelude.{◌≡◌, ◌<◌, ◌+◌, ◌++◌, ℕ, IfErr, List, OnOk, length, vec_capacity, vec_len};
 ghost use Rattle.gixobj_streams.specs.Streams.{SinkView, list_view};
-ghost use Rattle.gixobj_fields.specs.Writing.{FailsAsSink, RejectsNothing, IsWritingError};
-ghost use Rattle.gixobj_fields.specs.declared.encode.Error as encode;
+ghost use Rattle.gixobj_streams.specs.Writing.{FailsAsSink, RejectsNothing, IsWritingError};
+ghost use Rattle.gixobj_streams.specs.declared.encode.Error as encode;
 ghost use Rattle.gixobj_hash.specs.declared.hash.kind.Kind.{Kind};
 ghost use Rattle.gixobj_line.specs.TagPrefix.{IsTag};
 ghost use Rattle.gixobj_tag.specs.NameRule.{IsTagName};

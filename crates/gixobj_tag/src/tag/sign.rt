@@ -1,7 +1,7 @@
 //! Signing of tags (gitformat-signature, "Tag signatures").
 ghost use Rattle.std.specs.Prelude.{◌≡◌, ◌++◌, ◌∷◌, [], IfErr, IfOk, OnOk, Some};
 ghost use Rattle.bstr.specs.Owned.{bstring_bytes};
-ghost use Rattle.gixobj_fields.specs.Writing.{RejectsNothing};
+ghost use Rattle.gixobj_streams.specs.Writing.{RejectsNothing};
 ghost use Rattle.gixobj_hash.specs.Hash.{IsIdHex};
 ghost use Rattle.gixobj_signature.specs.Signing.{sign_options_view, sign_plan, signer_error};
 ghost use Rattle.gixobj_signature.specs.Plans.{IsCarriedOut};

@@ -4,7 +4,7 @@ ghost use Rattle.std.specs.Option.{SomeIff};
 ghost use Rattle.bstr.specs.BStr.{bstr_bytes};
 ghost use Rattle.gixobj_fields.specs.HeaderFormat.{encode_field, encode_line};
 ghost use Rattle.gixobj_streams.specs.Streams.{AppendsAll, AppendsOrFails};
-ghost use Rattle.gixobj_fields.specs.Writing.{AddsSize, IsSize, IsWritingError, LacksRoom, RejectsNothing};
+ghost use Rattle.gixobj_streams.specs.Writing.{AddsSize, IsSize, IsWritingError, LacksRoom, RejectsNothing};
 ghost use Rattle.gixobj_tag.specs.NameRule.{IsTagName, IsTagNameError};
 ghost use Rattle.gixobj_tag.specs.TagFormat.{encode_target_lines};
 ghost use Rattle.gixobj_tag.specs.TagWriting.{IsNameLineError, IsTagPartsError, encode_body, encode_message, encode_tag_parts, encode_signature};
@@ -222,7 +222,7 @@ impl Target for ObjectId {
 /// The tagger, by its line or as an actor, if there is one.
 trait Tagger {
     ghost use Rattle.std.specs.Prelude.{ℕ, List};
-    ghost use Rattle.gixobj_fields.specs.Writing.{RejectedValue};
+    ghost use Rattle.gixobj_streams.specs.Writing.{RejectedValue};
 
     /// The encoding of the `tagger` line, or nothing without a tagger.
     ghost tagger_line: { Self → List ℕ };

@@ -1,7 +1,7 @@
 //! Laws of the decoder and the encoder of trees. The contract of each function is the law, and its body
 //! is empty.
 ghost use Rattle.std.specs.Prelude.{◌≡◌, All, List, ℕ};
-ghost use Rattle.gixobj_fields.specs.Writing.{RejectsNothing};
+ghost use Rattle.gixobj_streams.specs.Writing.{RejectsNothing};
 ghost use Rattle.gixobj_hash.specs.declared.hash.kind.Kind.{Kind};
 ghost use Rattle.gixobj_entries.specs.Entries.{EntryView};
 ghost use Rattle.gixobj_tree.specs.TreeEncoding.{IsTreeEncodeError, encode_tree};

@@ -11,7 +11,7 @@ ghost use Rattle.gixobj_entries.specs.EntryViews.{entry_view};
 ghost use Rattle.gixobj_tree.specs.TreeEncoding.{IsDigestResult, IsEntryEncodeError, encode_entry};
 ghost use Rattle.gixobj_tree.specs.TreeSizes.{encode_mode_and_name, with_ids};
 ghost use Rattle.gixobj_streams.specs.Streams.{AppendsAll, AppendsOrFails};
-ghost use Rattle.gixobj_fields.specs.Writing.{AddsSize, IsWritingError, LacksRoom};
+ghost use Rattle.gixobj_streams.specs.Writing.{AddsSize, IsWritingError, LacksRoom};
 
 use super::{Entry, EntryMode, EntryRef, Tree};
 use bstr::BString;

@@ -7,7 +7,7 @@ use Rattle.gixobj_edit.proofs.edits.edited.Goals as goal
 use Rattle.gixobj_edit.specs.Edits.{AreEncodableIfDone, IsEmitted, IsRepliesError}
 use Rattle.gixobj_edit.specs.Replies.{EndsInWrite}
 use Rattle.gixobj_editor.specs.declared.reply.Reply.{Reply}
-use Rattle.gixobj_fields.specs.declared.encode.Error.{Error}
+use Rattle.gixobj_streams.specs.declared.encode.Error.{Error}
 use Rattle.gixobj_hash.specs.Hash.{id_bytes}
 
 pub new_trees-requires-clause-write : goal.new_trees-requires-clause-write

@@ -1,4 +1,4 @@
-use Rattle.gixobj_fields.proofs.Errors.{fails_as_sink_of_error}
+use Rattle.gixobj_streams.proofs.Errors.{fails_as_sink_of_error}
 use Rattle.gixobj_fields.proofs.laws.write_error_implies_sink_error.Goals as goal
 
 pub returns : goal.returns

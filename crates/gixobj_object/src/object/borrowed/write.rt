@@ -1,5 +1,5 @@
 //! Encoding of borrowed objects.
-ghost use Rattle.gixobj_fields.specs.Writing.{IsSize};
+ghost use Rattle.gixobj_streams.specs.Writing.{IsSize};
 ghost use Rattle.gixobj_object.specs.BorrowedObjects.{IsReadyToWrite, encode_borrowed_object};
 
 use super::ObjectRef;

@@ -1,5 +1,5 @@
 use Rattle.std.proofs.Common.{◌++◌, ◌∙◌, List, ℕ, ap}
-use Rattle.gixobj_fields.proofs.Errors.{fails_as_sink_of_error}
+use Rattle.gixobj_streams.proofs.Errors.{fails_as_sink_of_error}
 use Rattle.gixobj_commit.proofs.Reencoded.{commit_reencodes_identically, decoded_commit_rejects_nothing}
 use Rattle.gixobj_commit.specs.CommitViews.{commit_lines}
 use Rattle.gixobj_commit.specs.CommitWriting.{IsCommitLinesError, encode_commit, in_lower_case}

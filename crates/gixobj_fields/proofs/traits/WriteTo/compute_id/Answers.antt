@@ -1,7 +1,7 @@
 -- An error of the digest is that of a writer to an empty list.
 use Rattle.std.proofs.Common.{◌≡◌, ◌-◌, Err, arith, rules}
 use Rattle.std.specs.Prelude.{vec_capacity, vec_len}
-use Rattle.gixobj_fields.proofs.Errors.{encoding_error_of_list}
+use Rattle.gixobj_streams.proofs.Errors.{encoding_error_of_list}
 use Rattle.gixobj_fields.proofs.traits.WriteTo.compute_id.Goals as goal
 
 pub returns-in_err-write_to_vec-clause-error : goal.returns-in_err-write_to_vec-clause-error

@@ -1,7 +1,7 @@
 -- An error of the encoding is that of a writer to an empty list.
 use Rattle.std.proofs.Common.{◌≡◌, ◌-◌, Err, arith, rules}
 use Rattle.std.specs.Prelude.{vec_capacity, vec_len}
-use Rattle.gixobj_fields.proofs.Errors.{encoding_error_of_list}
+use Rattle.gixobj_streams.proofs.Errors.{encoding_error_of_list}
 use Rattle.gixobj_keep.specs.declared.write.Error.TheVariants as write
 use Rattle.gixobj_keep.proofs.memory.Memory.write.Goals as goal
 

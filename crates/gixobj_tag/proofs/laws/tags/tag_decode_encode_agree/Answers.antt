@@ -1,5 +1,5 @@
 use Rattle.std.proofs.Common.{◌++◌, ◌∙◌, List, ℕ, ap}
-use Rattle.gixobj_fields.proofs.Errors.{fails_as_sink_of_error}
+use Rattle.gixobj_streams.proofs.Errors.{fails_as_sink_of_error}
 use Rattle.gixobj_tag.proofs.Reencoded.{decoded_tag_rejects_nothing, tag_reencodes_identically}
 use Rattle.gixobj_tag.specs.TagViews.{tag_lines}
 use Rattle.gixobj_tag.specs.TagWriting.{IsTagLinesError, encode_tag}

@@ -1,5 +1,5 @@
 use Rattle.std.proofs.Common.{rules}
-use Rattle.gixobj_fields.specs.declared.encode.RefNameFault.TheVariants as fault
+use Rattle.gixobj_streams.specs.declared.encode.RefNameFault.TheVariants as fault
 use Rattle.gixobj_tag.proofs.Names.{has_fault_empty, is_first_fault, no_fault_of_valid}
 use Rattle.gixobj_tag.proofs.name.faults.first_found.Goals as goal
 

@@ -1,7 +1,7 @@
 -- The error of an encoding is that of a writer to an empty list.
 use Rattle.std.proofs.Common.{◌≡◌, ◌-◌, Err, arith, rules}
 use Rattle.std.specs.Prelude.{vec_capacity, vec_len}
-use Rattle.gixobj_fields.proofs.Errors.{encoding_error_of_list}
+use Rattle.gixobj_streams.proofs.Errors.{encoding_error_of_list}
 use Rattle.gixobj_tag.specs.TagViews.{owned_tag_lines}
 use Rattle.gixobj_tag.specs.TagWriting.{IsOwnedTagError, encode_tag}
 use Rattle.gixobj_tag.proofs.tag.sign.tag_written.Goals as goal

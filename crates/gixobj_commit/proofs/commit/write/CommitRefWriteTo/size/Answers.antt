@@ -4,7 +4,7 @@ use Rattle.gixobj_hash.specs.Hash.Hex.{decoded_id}
 use Rattle.bstr.specs.BStr.{bstr_bytes}
 use Rattle.std.proofs.Common.{◌^◌}
 use Rattle.gixobj_commit.proofs.CommitWrites.{borrowed_commit_in_parts}
-use Rattle.gixobj_fields.proofs.Steps.{counted_eq_len, no_overflow_at_first, no_overflow_at_fourth, no_overflow_at_second, no_overflow_at_third}
+use Rattle.gixobj_commit.proofs.PartSteps.{counted_eq_len, no_overflow_at_first, no_overflow_at_fourth, no_overflow_at_second, no_overflow_at_third}
 use Rattle.gixobj_commit.proofs.commit.write.CommitRefWriteTo.size.Goals as goal
 
 pub returns-in_err-ids : goal.returns-in_err-ids

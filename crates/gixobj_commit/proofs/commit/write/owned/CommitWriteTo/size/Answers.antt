@@ -1,7 +1,7 @@
 -- The sizes of the parts of the encoding are added one after the other.
 use Rattle.std.proofs.Common.{◌^◌}
 use Rattle.gixobj_commit.proofs.CommitWrites.{owned_commit_in_parts}
-use Rattle.gixobj_fields.proofs.Steps.{counted_eq_len, no_overflow_at_first, no_overflow_at_fourth, no_overflow_at_second, no_overflow_at_third}
+use Rattle.gixobj_commit.proofs.PartSteps.{counted_eq_len, no_overflow_at_first, no_overflow_at_fourth, no_overflow_at_second, no_overflow_at_third}
 use Rattle.gixobj_commit.proofs.commit.write.owned.CommitWriteTo.size.Goals as goal
 
 pub returns-in_err-ids : goal.returns-in_err-ids

@@ -7,9 +7,9 @@ use Rattle.std.specs.declared.vec.Vec.{Vec}
 use Rattle.std.specs.declared.io.ErrorKind.TheVariants.{OutOfMemory}
 use Rattle.gixobj_streams.specs.Streams.{AppendsAll, AppendsPrefix, SinkView, list_view}
 use Rattle.std.specs.declared.io.Error as io
-use Rattle.gixobj_fields.specs.declared.encode.Error.{Error}
-use Rattle.gixobj_fields.specs.declared.encode.Error.TheVariants as error
-use Rattle.gixobj_fields.specs.Writing.{FailsAsSink, IsEncodingError, IsWritingError, LacksRoom, RejectedValue, RejectsNothing, StopsAt}
+use Rattle.gixobj_streams.specs.declared.encode.Error.{Error}
+use Rattle.gixobj_streams.specs.declared.encode.Error.TheVariants as error
+use Rattle.gixobj_streams.specs.Writing.{FailsAsSink, IsEncodingError, IsWritingError, LacksRoom, RejectedValue, RejectsNothing, StopsAt}
 use Rattle.gixobj_streams.proofs.Appends.{prefix_with_more_room, appends_prefix_middle, appends_all_append, appends_with_more_room}
 
 stops_at_append : (R Q : RejectedValue → List ℕ → Type 0) (a b c : SinkView) (prefix : List ℕ) → AppendsAll a b prefix

@@ -5,9 +5,9 @@ use Rattle.std.specs.declared.alloc.Global.{Global}
 use Rattle.std.specs.declared.vec.Vec.{Vec}
 use Rattle.bstr.specs.Owned.{bstring_bytes}
 use Rattle.gixobj_streams.specs.Streams.{AppendsAll, AppendsPrefix, SinkView, empty_sink, list_view}
-use Rattle.gixobj_fields.specs.declared.encode.Error.{Error}
-use Rattle.gixobj_fields.specs.declared.encode.Error.TheVariants as error
-use Rattle.gixobj_fields.specs.declared.encode.RefNameFault.{RefNameFault}
+use Rattle.gixobj_streams.specs.declared.encode.Error.{Error}
+use Rattle.gixobj_streams.specs.declared.encode.Error.TheVariants as error
+use Rattle.gixobj_streams.specs.declared.encode.RefNameFault.{RefNameFault}
 
 -- a rejected value: of a header, a tag, a tree's entry or an actor
 pub data RejectedValue : Type 0 where
