@@ -44,6 +44,7 @@ pub use Rattle.gixobj_error.specs.declared as error
 pub use Rattle.gixobj_fields.specs.FieldWriting
 pub use Rattle.gixobj_fields.specs.HeaderReading
 pub use Rattle.gixobj_fields.specs.HeaderFormat
+pub use Rattle.gixobj_hash.specs.FieldFormat
 pub use Rattle.gixobj_fields.specs.Iterators as FieldReaders
 pub use Rattle.gixobj_hash.specs.Runs
 pub use Rattle.gixobj_fields.specs.StreamHash

@@ -3,7 +3,7 @@ use Rattle.std.proofs.Common.{ℕ, List, [], ◌∷◌, ◌++◌, Result, Ok, Er
 use Rattle.std.specs.Prelude.{IfErr}
 use Rattle.bstr.specs.Owned.{bstring_bytes}
 use Rattle.gixobj_streams.proofs.Appends.{appends_prefix_after_byte}
-use Rattle.gixobj_fields.specs.HeaderFormat.{encode_field}
+use Rattle.gixobj_hash.specs.FieldFormat.{encode_field}
 use Rattle.gixobj_streams.specs.Streams.{AppendsAll, AppendsPrefix, SinkView}
 use Rattle.gixobj_streams.specs.Writing.{IsWritingError, LacksRoom}
 use Rattle.std.specs.declared.io.Error as io

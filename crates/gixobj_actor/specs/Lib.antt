@@ -1,9 +1,7 @@
 pub mod Actor
 pub mod ActorWriting
 pub mod Date
-pub use Rattle.gixobj_fields.specs.FieldWriting
-pub use Rattle.gixobj_fields.specs.HeaderReading
-pub use Rattle.gixobj_fields.specs.HeaderFormat
+pub use Rattle.gixobj_hash.specs.FieldFormat
 pub use Rattle.gixobj_streams.specs.Streams
 pub use Rattle.gixobj_streams.specs.Writing
 pub use Rattle.gixobj_hash.specs.Decode

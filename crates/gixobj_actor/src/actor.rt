@@ -17,9 +17,9 @@ ghost use Rattle.gixobj_hash.specs.ByteStrings.{IsByteFree, trimmed};
 
 use crate::date::{Time, TimeBuf, parse_header};
 use bstr::{BStr, BString, ByteSlice};
-use gixobj_fields::encode::Error;
 use gixobj_hash::split::{has_byte, split_at_byte, split_at_last_byte};
 use gixobj_hash::{OutOfMemory, decode};
+use gixobj_streams::encode::Error;
 use gixobj_streams::short::ShortString;
 use gixobj_streams::streams::{Sink, ToWrite, write_parts};
 use std::alloc::Global;

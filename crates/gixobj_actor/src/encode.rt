@@ -1,13 +1,13 @@
 //! Encodes the header fields of actors (gitdatamodel, "commits").
 ghost use Rattle.std.specs.Prelude.{◌<◌, ◌+◌, ◌^◌, ◌≡◌, length, IfErr, OnOk};
 ghost use Rattle.std.specs.Option.{SomeIff};
-ghost use Rattle.gixobj_fields.specs.HeaderFormat.{encode_field};
+ghost use Rattle.gixobj_hash.specs.FieldFormat.{encode_field};
 ghost use Rattle.gixobj_streams.specs.Streams.{AppendsAll};
 ghost use Rattle.gixobj_streams.specs.Writing.{AddsSize, IsWritingError, LacksRoom};
 ghost use Rattle.gixobj_actor.specs.ActorWriting.{IsLegal, IsActorFieldError, encode_owned_actor};
 
 use crate::actor::Signature;
-use gixobj_fields::encode::Error;
+use gixobj_streams::encode::Error;
 use gixobj_streams::streams::{Sink, write_parts};
 
 /// Encodes the field of an actor and appends it to a sink: the name, a space, the actor and a newline

@@ -15,7 +15,8 @@ use Rattle.gixobj_tokens.specs.CommitSignatures.{signature_field, HasCommitSigna
 use Rattle.gixobj_fields.proofs.HeaderFields.{header_unique}
 use Rattle.gixobj_fields.proofs.HeadersRoundTrip.{header_round_trips}
 use Rattle.gixobj_fields.specs.FieldWriting.{encode_header, value_lines}
-use Rattle.gixobj_fields.specs.HeaderFormat.{EndsHeader, BeginsWithField, BeginsWithHeader, Header, IsHeaderName, DecodesToHeader, encode_field, encode_continuation, encode_line, value_of_lines}
+use Rattle.gixobj_fields.specs.HeaderFormat.{EndsHeader, BeginsWithField, BeginsWithHeader, Header, IsHeaderName, DecodesToHeader, encode_continuation, value_of_lines}
+use Rattle.gixobj_hash.specs.FieldFormat.{encode_field, encode_line}
 use Rattle.gixobj_hash.specs.Runs.{BeginsWithPieces}
 use Rattle.gixobj_hash.specs.declared.hash.kind.Kind.{Kind}
 use Rattle.gixobj_hash.specs.declared.hash.kind.Kind.TheVariants as hash

@@ -5,7 +5,7 @@ use Rattle.std.proofs.Common.{◌≡◌, ◌≢◌, ◌∙◌, ◌≤◌, ◌+�
 use Rattle.std.proofs.lemmas.List.Folds.{list_all-append}
 use Rattle.std.proofs.lemmas.List.Elements.{All-append, All-cons, All-head, All-tail}
 use Rattle.bstr.specs.BStr.{bstr_bytes}
-use Rattle.gixobj_fields.specs.HeaderFormat.{encode_field}
+use Rattle.gixobj_hash.specs.FieldFormat.{encode_field}
 use Rattle.gixobj_hash.specs.Kind.{kind_name}
 use Rattle.gixobj_hash.specs.declared.hash.kind.Kind.{Kind}
 use Rattle.gixobj_text.proofs.MarkerPlaces.{no_marker_and_marker_place, format_of_marker_unique, marker_place_unique}

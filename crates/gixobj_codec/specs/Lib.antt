@@ -23,6 +23,7 @@ pub use Rattle.gixobj_entries.specs.declared as entries
 pub use Rattle.gixobj_fields.specs.FieldWriting
 pub use Rattle.gixobj_fields.specs.HeaderReading
 pub use Rattle.gixobj_fields.specs.HeaderFormat
+pub use Rattle.gixobj_hash.specs.FieldFormat
 pub use Rattle.gixobj_hash.specs.Runs
 pub use Rattle.gixobj_streams.specs.Streams
 pub use Rattle.gixobj_streams.specs.Writing

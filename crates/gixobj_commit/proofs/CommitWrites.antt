@@ -15,7 +15,7 @@ use Rattle.bstr.specs.Owned.{bstring_bytes}
 use Rattle.gixobj_actor.specs.ActorWriting.{IsLegal, IsActorFieldError, encode_owned_actor}
 use Rattle.gixobj_hash.specs.Hash.{DecodesToId, encode_id_hex}
 use Rattle.gixobj_fields.specs.HeaderReading.{header_of, owned_header_of}
-use Rattle.gixobj_fields.specs.HeaderFormat.{encode_field}
+use Rattle.gixobj_hash.specs.FieldFormat.{encode_field}
 use Rattle.gixobj_streams.specs.Writing.{RejectedValue, RejectsNothing}
 use Rattle.gixobj_hash.specs.declared.hash.object_id.ObjectId.{ObjectId}
 use Rattle.gixobj_hash.proofs.HexCase.{encode_id_hex_lower_case}

@@ -4,7 +4,8 @@ use Rattle.std.specs.List.{AllPass, flat_map}
 use Rattle.std.specs.Str.{str_to_ascii_lowercase}
 use Rattle.std.proofs.lemmas.List.Elements.{All-head, All-tail}
 use Rattle.gixobj_hash.specs.Hash.{is_lower_hex_digit}
-use Rattle.gixobj_fields.specs.HeaderFormat.{Header, encode_field}
+use Rattle.gixobj_fields.specs.HeaderFormat.{Header}
+use Rattle.gixobj_hash.specs.FieldFormat.{encode_field}
 use Rattle.gixobj_streams.specs.Writing.{RejectedValue, RejectsNothing}
 use Rattle.gixobj_hash.specs.declared.hash.kind.Kind.{Kind}
 use Rattle.gixobj_fields.proofs.FieldWrites.{no_byte_of_byte_free}

@@ -13,6 +13,7 @@ pub use Rattle.gixobj_actor.specs.Date
 pub use Rattle.gixobj_fields.specs.FieldWriting
 pub use Rattle.gixobj_fields.specs.HeaderReading
 pub use Rattle.gixobj_fields.specs.HeaderFormat
+pub use Rattle.gixobj_hash.specs.FieldFormat
 pub use Rattle.gixobj_streams.specs.Streams
 pub use Rattle.gixobj_streams.specs.Writing
 pub use Rattle.gixobj_hash.specs.Decode

@@ -11,7 +11,8 @@ use Rattle.hex.proofs.HexLemmas.{length-encode_with}
 use Rattle.hex.specs.Hex.{lower_digits}
 use Rattle.gixobj_hash.specs.Hash.{encode_id_hex, id_bytes}
 use Rattle.gixobj_hash.specs.declared.hash.object_id.ObjectId.{ObjectId}
-use Rattle.gixobj_fields.specs.HeaderFormat.{encode_field, encode_continuation, encode_line}
+use Rattle.gixobj_fields.specs.HeaderFormat.{encode_continuation}
+use Rattle.gixobj_hash.specs.FieldFormat.{encode_field, encode_line}
 use Rattle.gixobj_hash.specs.ByteStrings.{IsByteFree, SplitsAt}
 use Rattle.gixobj_streams.specs.Streams.{AppendsAll, AppendsPrefix, SinkView}
 use Rattle.std.specs.declared.io.Error as io

@@ -6,7 +6,8 @@ use Rattle.std.specs.List.{flat_map}
 use Rattle.std.proofs.lemmas.List.{take_all, take_more}
 use Rattle.std.proofs.lemmas.List.Sums.{count_by-le-length, sum_by-append, sum_by-cons, sum_by_more}
 use Rattle.gixobj_fields.specs.FieldWriting.{folded, newlines, value_lines}
-use Rattle.gixobj_fields.specs.HeaderFormat.{encode_continuation, encode_line}
+use Rattle.gixobj_fields.specs.HeaderFormat.{encode_continuation}
+use Rattle.gixobj_hash.specs.FieldFormat.{encode_line}
 
 pub newlines_le_len : (content : List ℕ) → newlines content ≤ length content
 newlines_le_len content = count_by-le-length (λ byte. byte == 10) content

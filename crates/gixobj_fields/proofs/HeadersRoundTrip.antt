@@ -7,7 +7,8 @@ use Rattle.std.proofs.lemmas.List.{append-nil}
 use Rattle.std.proofs.lemmas.List.Elements.{All-head, All-tail}
 use Rattle.gixobj_hash.specs.ByteStrings.{IsByteFree}
 use Rattle.gixobj_fields.specs.FieldWriting.{folded, encode_header}
-use Rattle.gixobj_fields.specs.HeaderFormat.{Header, DecodesToHeader, encode_continuation, encode_line, value_of_lines}
+use Rattle.gixobj_fields.specs.HeaderFormat.{Header, DecodesToHeader, encode_continuation, value_of_lines}
+use Rattle.gixobj_hash.specs.FieldFormat.{encode_line}
 use Rattle.gixobj_fields.proofs.FieldWrites.{folded_of_one_line, folded_of_newline_free, folded_cons_line}
 
 encode_line_append_not_empty : (line rest : List ℕ) → (length (encode_line line ++ rest) == 0) ≡ false

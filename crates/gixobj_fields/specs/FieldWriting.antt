@@ -2,7 +2,8 @@
 use Rattle.std.specs.Prelude.{◌≡◌, ◌⊎◌, ℕ, List, [], ◌∷◌, ◌++◌, ◌==◌, Contains, if◌then◌else◌}
 use Rattle.std.specs.List.{count_by, flat_map}
 use Rattle.gixobj_hash.specs.ByteStrings.{IsByteFree}
-use Rattle.gixobj_fields.specs.HeaderFormat.{Header, encode_continuation, encode_line}
+use Rattle.gixobj_fields.specs.HeaderFormat.{Header, encode_continuation}
+use Rattle.gixobj_hash.specs.FieldFormat.{encode_line}
 use Rattle.gixobj_streams.specs.Writing.{RejectedValue, empty_header, header_with_newline}
 use Rattle.gixobj_hash.specs.Bytes.{newline, space}
 

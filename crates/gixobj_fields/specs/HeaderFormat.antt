@@ -4,18 +4,11 @@ use Rattle.std.specs.Prelude.{◌≡◌, ◌≢◌, ℕ, List, [], ◌∷◌, �
 use Rattle.std.specs.List.{flat_map}
 use Rattle.gixobj_hash.specs.ByteStrings.{IsByteFree}
 use Rattle.gixobj_hash.specs.Bytes.{newline, space}
-
--- a line: its bytes and a newline
-abbrev pub encode_line : List ℕ → List ℕ
-encode_line line = line ++ newline ∷ []
+use Rattle.gixobj_hash.specs.FieldFormat.{encode_field, encode_line}
 
 -- a continuation line of a header: a space and the line
 abbrev pub encode_continuation : List ℕ → List ℕ
 encode_continuation line = space ∷ encode_line line
-
--- a single-line field: its name, a space, its value and a newline
-abbrev pub encode_field : List ℕ → List ℕ → List ℕ
-encode_field name value = name ++ space ∷ encode_line value
 
 -- the input begins with the field of this name and this value, which has no newline, and the rest follows
 pub record BeginsWithField (name input value rest : List ℕ) : Type 0 where

@@ -4,7 +4,7 @@ ghost use Rattle.std.specs.Option.{SomeIff};
 ghost use Rattle.std.specs.Str.{str_to_ascii_lowercase};
 ghost use Rattle.gixobj_hash.specs.Hash.{encode_id_hex};
 ghost use Rattle.gixobj_fields.specs.FieldWriting.{IsLastLine, IsFieldError, folded, newlines};
-ghost use Rattle.gixobj_fields.specs.HeaderFormat.{encode_field};
+ghost use Rattle.gixobj_hash.specs.FieldFormat.{encode_field};
 ghost use Rattle.gixobj_streams.specs.Streams.{AppendsAll, AppendsOrFails};
 ghost use Rattle.gixobj_streams.specs.Writing.{AddsSize, IsWritingError, LacksRoom, RejectsNothing};
 ghost use Rattle.gixobj_hash.specs.Bytes.{newline, space};

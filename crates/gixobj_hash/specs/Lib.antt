@@ -2,6 +2,7 @@ pub mod Bytes
 pub mod Splits
 pub mod Decode
 pub mod Encode
+pub mod FieldFormat
 pub mod Hash
 pub mod Kind
 pub mod Optional

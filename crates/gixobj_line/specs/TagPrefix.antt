@@ -1,7 +1,7 @@
 -- The lines of a tag before its body, and which bytes are the encoding of a tag (gitdatamodel, "tag objects").
 use Rattle.std.specs.Prelude.{◌≡◌, ◌≢◌, ℕ, List, [], ◌∷◌, ◌++◌, Option, Some, None, codes, ⊤}
 use Rattle.gixobj_actor.specs.Actor.{BeginsWithActor}
-use Rattle.gixobj_fields.specs.HeaderFormat.{encode_field}
+use Rattle.gixobj_hash.specs.FieldFormat.{encode_field}
 use Rattle.gixobj_hash.specs.Hash.Hex.{IsIdHexOfKind}
 use Rattle.gixobj_hash.specs.Kind.{kind_name}
 use Rattle.gixobj_hash.specs.declared.hash.kind.Kind as hash

@@ -2,7 +2,7 @@
 use Rattle.std.specs.Prelude.{ℕ, List, ◌++◌, codes, decimal}
 use Rattle.gixobj_script.specs.declared.fault.Fault.{Fault}
 use Rattle.gixobj_script.specs.declared.fault.Fault.TheVariants as fault
-use Rattle.gixobj_fields.specs.HeaderFormat.{encode_line}
+use Rattle.gixobj_hash.specs.FieldFormat.{encode_line}
 use Rattle.gixobj_show.specs.Failure.{line_of, exit_status_of}
 use Rattle.gixobj_script.specs.declared.script.ScriptError.{ScriptError}
 use Rattle.gixobj_script.specs.declared.script.ScriptError.TheVariants as script

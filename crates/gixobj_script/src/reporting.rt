@@ -3,7 +3,7 @@ ghost use Rattle.std.specs.Prelude.{◌≡◌, ◌∷◌, ◌++◌, [], List, If
 ghost use Rattle.std.specs.List.{flat_map};
 ghost use Rattle.gixobj_script.specs.Reporting.{edit_reply_line, edit_reply_bytes, edit_error_line, AreLinesOf, lookups_line, reply_lines, report_lines_of};
 ghost use Rattle.gixobj_editor.specs.declared.reply.Reply.{Reply};
-ghost use Rattle.gixobj_fields.specs.HeaderFormat.{encode_line};
+ghost use Rattle.gixobj_hash.specs.FieldFormat.{encode_line};
 
 use gixobj_editor::editor::{Error, WriteError};
 use gixobj_editor::{EditReply, Reply};

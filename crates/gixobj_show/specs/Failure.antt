@@ -1,5 +1,5 @@
 -- The errors of the program, with their lines and exit statuses.
-use Rattle.std.specs.Prelude.{◌∷◌, ◌++◌, ℕ, List, [], codes}
+use Rattle.std.specs.Prelude.{ℕ, List, codes}
 use Rattle.gixobj_hash.specs.Decode.{HasLooseHeaderOfLength}
 use Rattle.gixobj_hash.specs.declared.decode.LooseContentError.{LooseContentError}
 use Rattle.gixobj_hash.specs.declared.decode.LooseContentError.TheVariants.{Header, Short}
@@ -7,7 +7,7 @@ use Rattle.gixobj_hash.specs.declared.decode.LooseHeaderDecodeError.TheVariants 
 use Rattle.gixobj_hash.specs.declared.kind.Kind.{Kind}
 use Rattle.gixobj_show.specs.declared.failure.Failure.{Failure}
 use Rattle.gixobj_show.specs.declared.failure.Failure.TheVariants.{Usage, InputFailed, OutputFailed, OutOfMemory, BadHeader, ShortData, NotATree, BadTree}
-use Rattle.gixobj_hash.specs.Bytes.{newline}
+use Rattle.gixobj_hash.specs.FieldFormat.{encode_line}
 
 -- the input does not begin with a loose header
 abbrev pub BeginsWithNoLooseHeader : List ℕ → Type 0
@@ -19,20 +19,16 @@ content_error (Header header.OutOfMemory) = OutOfMemory
 content_error (Header error) = BadHeader
 content_error (Short size) = ShortData
 
--- the line of an error: its message and a newline
-abbrev error_line : List ℕ → List ℕ
-error_line message = message ++ newline ∷ []
-
 -- the line for standard error
 abbrev pub line_of : Failure → List ℕ
-line_of Usage = error_line (codes "usage: gixobj show|tree|edit [sha256]")
-line_of InputFailed = error_line (codes "gixobj: input failed")
-line_of OutputFailed = error_line (codes "gixobj: output failed")
-line_of OutOfMemory = error_line (codes "gixobj: out of memory")
-line_of BadHeader = error_line (codes "gixobj: bad header")
-line_of ShortData = error_line (codes "gixobj: short data")
-line_of NotATree = error_line (codes "gixobj: not a tree")
-line_of BadTree = error_line (codes "gixobj: bad tree")
+line_of Usage = encode_line (codes "usage: gixobj show|tree|edit [sha256]")
+line_of InputFailed = encode_line (codes "gixobj: input failed")
+line_of OutputFailed = encode_line (codes "gixobj: output failed")
+line_of OutOfMemory = encode_line (codes "gixobj: out of memory")
+line_of BadHeader = encode_line (codes "gixobj: bad header")
+line_of ShortData = encode_line (codes "gixobj: short data")
+line_of NotATree = encode_line (codes "gixobj: not a tree")
+line_of BadTree = encode_line (codes "gixobj: bad tree")
 
 -- the exit status: 2 if the arguments are invalid, and otherwise 1
 abbrev pub exit_status_of : Failure → ℕ

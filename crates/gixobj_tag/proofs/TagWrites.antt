@@ -4,7 +4,7 @@ use Rattle.std.proofs.lemmas.List.{append-nil}
 use Rattle.std.specs.Prelude.{codes}
 use Rattle.gixobj_streams.proofs.Appends.{appends_prefix_first, appends_all_nil, appends_or_fails_append}
 use Rattle.gixobj_streams.proofs.Errors.{lacks_room_of_fewer, writing_error_append}
-use Rattle.gixobj_fields.specs.HeaderFormat.{encode_field}
+use Rattle.gixobj_hash.specs.FieldFormat.{encode_field}
 use Rattle.gixobj_streams.specs.Streams.{AppendsAll, AppendsPrefix, AppendsOrFails, SinkView}
 use Rattle.gixobj_streams.specs.Writing.{IsWritingError, LacksRoom, RejectedValue, RejectsNothing}
 use Rattle.std.specs.declared.io.Error as io

@@ -3,7 +3,7 @@
 use Rattle.std.specs.Prelude.{◌≡◌, ◌⊎◌, ℕ, List, [], ◌∷◌, ◌++◌, Option, Some, None, codes, if◌then◌else◌}
 use Rattle.gixobj_actor.specs.ActorWriting.{IsActorFieldError}
 use Rattle.gixobj_actor.specs.declared.actor.Signature.{Signature}
-use Rattle.gixobj_fields.specs.HeaderFormat.{encode_field}
+use Rattle.gixobj_hash.specs.FieldFormat.{encode_field}
 use Rattle.gixobj_streams.specs.Writing.{RejectedValue, bad_name, name_with_dash}
 use Rattle.gixobj_streams.specs.declared.encode.RefNameFault.{RefNameFault}
 use Rattle.gixobj_hash.specs.Kind.{kind_name}

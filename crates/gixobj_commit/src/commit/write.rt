@@ -4,7 +4,7 @@ ghost use Rattle.std.specs.List.{flat_map};
 ghost use Rattle.std.specs.Option.{SomeIff};
 ghost use Rattle.bstr.specs.BStr.{bstr_bytes};
 ghost use Rattle.gixobj_hash.specs.Hash.{IsIdHex, encode_id_hex};
-ghost use Rattle.gixobj_fields.specs.HeaderFormat.{encode_field};
+ghost use Rattle.gixobj_hash.specs.FieldFormat.{encode_field};
 ghost use Rattle.gixobj_streams.specs.Streams.{AppendsAll, AppendsOrFails};
 ghost use Rattle.gixobj_streams.specs.Writing.{AddsSize, IsSize, IsWritingError, LacksRoom, RejectsNothing};
 ghost use Rattle.gixobj_line.specs.Commit.{encode_encoding};

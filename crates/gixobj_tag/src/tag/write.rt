@@ -2,7 +2,7 @@
 ghost use Rattle.std.specs.Prelude.{◌≡◌, ◌↔◌, ◌<◌, ◌≤◌, ◌+◌, ◌^◌, ◌++◌, ◌∷◌, [], codes, length, IfErr, IfOk, IsOk, OnOk};
 ghost use Rattle.std.specs.Option.{SomeIff};
 ghost use Rattle.bstr.specs.BStr.{bstr_bytes};
-ghost use Rattle.gixobj_fields.specs.HeaderFormat.{encode_field, encode_line};
+ghost use Rattle.gixobj_hash.specs.FieldFormat.{encode_field, encode_line};
 ghost use Rattle.gixobj_streams.specs.Streams.{AppendsAll, AppendsOrFails};
 ghost use Rattle.gixobj_streams.specs.Writing.{AddsSize, IsSize, IsWritingError, LacksRoom, RejectsNothing};
 ghost use Rattle.gixobj_tag.specs.NameRule.{IsTagName, IsTagNameError};
@@ -190,7 +190,7 @@ trait Target {
 impl Target for BStr<'_> {
     ghost use Rattle.std.specs.Prelude.{codes};
     ghost use Rattle.bstr.specs.BStr.{bstr_bytes};
-    ghost use Rattle.gixobj_fields.specs.HeaderFormat.{encode_field};
+    ghost use Rattle.gixobj_hash.specs.FieldFormat.{encode_field};
 
     ghost target_line = { λ hex. encode_field (codes "object") (bstr_bytes hex) };
 
@@ -205,7 +205,7 @@ impl Target for BStr<'_> {
 
 impl Target for ObjectId {
     ghost use Rattle.std.specs.Prelude.{codes};
-    ghost use Rattle.gixobj_fields.specs.HeaderFormat.{encode_field};
+    ghost use Rattle.gixobj_hash.specs.FieldFormat.{encode_field};
     ghost use Rattle.gixobj_hash.specs.Hash.{encode_id_hex};
 
     ghost target_line = { λ id. encode_field (codes "object") (encode_id_hex id) };

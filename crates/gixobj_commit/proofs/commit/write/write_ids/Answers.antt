@@ -4,7 +4,7 @@ use Rattle.std.specs.List.{flat_map}
 use Rattle.std.proofs.lemmas.Result.{err_from_is_err_and}
 use Rattle.gixobj_hash.specs.Hash.{encode_id_hex}
 use Rattle.gixobj_streams.proofs.Appends.{appends_prefix_first, appends_or_fails_append}
-use Rattle.gixobj_fields.specs.HeaderFormat.{encode_field}
+use Rattle.gixobj_hash.specs.FieldFormat.{encode_field}
 use Rattle.gixobj_commit.proofs.commit.write.write_ids.Goals as goal
 
 pub returns-in_err-trusted_header_id-clause-appended : goal.returns-in_err-trusted_header_id-clause-appended

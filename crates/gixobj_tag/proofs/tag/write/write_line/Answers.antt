@@ -1,7 +1,7 @@
 -- The value and the newline follow the name.
 use Rattle.std.proofs.lemmas.Result.{err_from_is_err_and}
 use Rattle.gixobj_streams.proofs.Appends.{appends_prefix_first, appends_or_fails_append}
-use Rattle.gixobj_fields.specs.HeaderFormat.{encode_line}
+use Rattle.gixobj_hash.specs.FieldFormat.{encode_line}
 use Rattle.gixobj_tag.proofs.tag.write.write_line.Goals as goal
 
 pub returns-in_err-write_bytes-clause-appended : goal.returns-in_err-write_bytes-clause-appended

@@ -5,7 +5,7 @@ use Rattle.std.specs.Prelude.{codes}
 use Rattle.bstr.specs.BStr.{bstr_bytes}
 use Rattle.gixobj_streams.proofs.Appends.{appends_prefix_first, appends_prefix_append, appends_all_append}
 use Rattle.gixobj_streams.proofs.Errors.{lacks_room_after, lacks_room_of_result, writing_error_append}
-use Rattle.gixobj_fields.specs.HeaderFormat.{encode_field}
+use Rattle.gixobj_hash.specs.FieldFormat.{encode_field}
 use Rattle.gixobj_tag.proofs.TagWrites.{name_or_later, parts_after_target, parts_error_of_name, parts_error_of_tagger, parts_rejects_nothing, tagger_or_later}
 use Rattle.gixobj_tag.specs.TagFormat.{encode_target_lines}
 use Rattle.gixobj_tag.specs.TagWriting.{IsNameLineError, IsTagPartsError}

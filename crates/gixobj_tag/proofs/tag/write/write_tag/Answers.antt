@@ -5,7 +5,7 @@ use Rattle.std.specs.Prelude.{codes}
 use Rattle.bstr.specs.BStr.{bstr_bytes}
 use Rattle.gixobj_streams.proofs.Appends.{appends_prefix_first, appends_prefix_append, appends_all_append}
 use Rattle.gixobj_streams.proofs.Errors.{writing_error_longer}
-use Rattle.gixobj_fields.specs.HeaderFormat.{encode_field}
+use Rattle.gixobj_hash.specs.FieldFormat.{encode_field}
 use Rattle.gixobj_tag.specs.TagFormat.{encode_target_lines}
 use Rattle.gixobj_tag.specs.TagWriting.{IsTagPartsError, encode_body}
 use Rattle.gixobj_hash.specs.Optional.{bytes_if_some}

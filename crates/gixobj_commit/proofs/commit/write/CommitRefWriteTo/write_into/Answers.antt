@@ -8,7 +8,7 @@ use Rattle.std.proofs.lemmas.Result.{IfErr-weaker, IfOk-weaker, err_from_is_err_
 use Rattle.bstr.specs.BStr.{bstr_bytes}
 use Rattle.gixobj_streams.proofs.Errors.{lacks_room_of_result, writing_error_append}
 use Rattle.gixobj_hash.specs.Hash.{IsIdHex}
-use Rattle.gixobj_fields.specs.HeaderFormat.{encode_field}
+use Rattle.gixobj_hash.specs.FieldFormat.{encode_field}
 use Rattle.gixobj_streams.specs.Writing.{RejectedValue}
 use Rattle.gixobj_commit.proofs.CommitWrites.{borrowed_commit_error_after, borrowed_commit_in_parts, ids_written, borrowed_commit_error_of_part, all_map}
 use Rattle.gixobj_commit.proofs.PartSteps.{appends_all_four, appends_first_of_four, appends_fourth_of_four, appends_second_of_four, appends_third_of_four, appends_all_three}

@@ -2,7 +2,7 @@
 use Rattle.std.proofs.Common.{List, ℕ, ◌++◌, Option, subst}
 use Rattle.std.specs.Prelude.{IfErr, OnOk, codes}
 use Rattle.bstr.specs.BStr.{bstr_bytes}
-use Rattle.gixobj_fields.specs.HeaderFormat.{encode_field}
+use Rattle.gixobj_hash.specs.FieldFormat.{encode_field}
 use Rattle.gixobj_streams.specs.Writing.{IsWritingError, LacksRoom, RejectsNothing}
 use Rattle.gixobj_tag.specs.TagFormat.{encode_tagger, encode_target}
 use Rattle.gixobj_tag.specs.TagViews.{owned_tag_lines}
