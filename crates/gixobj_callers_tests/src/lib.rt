@@ -1,17 +1,23 @@
-//! Tests of the proved callers of `gix_object`.
+//! Tests of the proved callers that edit, list and import trees.
 #![tactic(auto)]
 
 #[cfg(test)]
+mod archives;
+#[cfg(test)]
 mod audits;
 #[cfg(test)]
-mod callers;
+mod checkouts;
 #[cfg(test)]
 mod history;
 #[cfg(test)]
-mod listing;
+mod imports;
 #[cfg(test)]
-mod messages;
+mod listing;
 #[cfg(test)]
 mod mirrors;
 #[cfg(test)]
+mod plans;
+#[cfg(test)]
 mod samples;
+#[cfg(test)]
+mod uploads;

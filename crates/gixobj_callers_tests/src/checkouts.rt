@@ -1,7 +1,6 @@
 //! Entries inserted into a directory of the empty root.
 
-use super::FIRST;
-use crate::samples::is_root;
+use crate::samples::{FIRST, is_root};
 use gix_object::find::Never;
 use gix_object::hash::Kind;
 use gix_object::tree::EntryKind;

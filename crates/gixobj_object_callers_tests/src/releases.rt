@@ -1,8 +1,7 @@
 //! Releases that are signed and audited. The runner answers only calls with the expected bytes
 //! (gitformat-signature).
 
-use super::TRUNCATED;
-use crate::samples::is_copy;
+use crate::samples::{TRUNCATED, is_copy};
 use bstr::{BString, ByteSlice};
 use gix_object::hash::Kind as HashKind;
 use gix_object::laws::{signed_commit_has_payload, signed_tag_has_payload};

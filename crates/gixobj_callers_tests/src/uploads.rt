@@ -1,8 +1,7 @@
 //! Trees to upload for the files of an editor, and writes of a script that are rebuilt and compared.
 
-use super::plans::stored;
-use super::{FIRST, SECOND};
-use crate::samples::commands_of;
+use crate::plans::stored;
+use crate::samples::{FIRST, SECOND, commands_of};
 use gix_object::hash::{Kind, ObjectId};
 use gix_object::tree::editor::{EditReply, Editor, Reply, WriteError, run};
 use gix_object::{Memory, Tree, encode};

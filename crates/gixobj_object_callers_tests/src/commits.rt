@@ -1,19 +1,9 @@
-//! Calls each proved caller once with enough memory.
+//! Commits that are decoded in part, copied, and searched for headers.
 ghost use Rattle.gix_object.specs.CommitViews.{commit_lines};
 ghost use Rattle.gix_object.specs.CommitWriting.{HasIds};
 ghost use Rattle.gix_object.specs.Hash.{IsIdHex};
 
-mod archives;
-mod checkouts;
-mod copies;
-mod imports;
-mod plans;
-mod releases;
-mod signers;
-mod tags;
-mod uploads;
-
-use crate::samples::is_copy;
+use crate::samples::{TREE, TRUNCATED, is_copy};
 use bstr::BStr;
 use gix_object::CommitRef;
 use gix_object::hash::Kind;
@@ -22,8 +12,6 @@ use gixobj_object_callers::auditor::{position_of, value_of, values_of};
 use gixobj_object_callers::store::{CopyError, copy_of, owned_copy_of};
 use gixobj_object_callers::walker::{ends_after_errors, message_of, parents_of, tree_of};
 use std::alloc::Global;
-
-const TREE: &[u8] = b"4b825dc642cb6eb9a060e54bf8d69288fbee4904";
 
 const FIRST: &[u8] = b"ce013625030ba8dba906f756967f9e9ca394464a";
 
@@ -37,9 +25,6 @@ const MERGE: &[u8] = b"tree 4b825dc642cb6eb9a060e54bf8d69288fbee4904\n\
     committer A <a@b> 0 +0000\n\
     x 1\n\
     gpgsig A\n B\n\nhi\n";
-
-/// Input that doesn't decode as a commit.
-const TRUNCATED: &[u8] = b"tree 4b";
 
 #[test]
 fn finds_tree_parents_and_message(rt: HostRuntime) {

@@ -4,7 +4,6 @@ use crate::samples::is_copy;
 use gix_object::hash::Kind;
 use gix_object::{Tree, TreeRef, decode};
 use gix_object_tests::samples::id;
-use gixobj_callers::planner::is_tree;
 use gixobj_object_callers::store::{TakeError, round_trip, taken_over, tree_copy_of};
 use std::alloc::Global;
 
@@ -35,8 +34,6 @@ fn round_trips(alloc: Global, tree: &Tree) -> bool {
 #[test]
 fn copies_tree_and_rejects_truncated_one(rt: HostRuntime) {
     let alloc = rt.alloc();
-    assert!(rt; is_tree(TREE, Kind::Sha1));
-    assert!(rt; !is_tree(TRUNCATED, Kind::Sha1));
     assert!(rt; is_copy(&tree_copy_of(alloc, TREE, Kind::Sha1), TREE));
     assert!(rt; tree_copy_of(alloc, TRUNCATED, Kind::Sha1).is_err());
     let tree = tree_of(alloc, TREE);

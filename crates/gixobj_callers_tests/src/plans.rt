@@ -1,14 +1,13 @@
 //! An entry that is inserted into a stored tree or into the empty one.
 
-use super::{FIRST, SECOND};
-use crate::samples::is_root;
+use crate::samples::{FIRST, SECOND, is_root};
 use gix_object::find::Never;
 use gix_object::hash::{Kind as HashKind, ObjectId};
 use gix_object::tree::EntryKind;
 use gix_object::tree::editor::{Error, WriteError, Written};
 use gix_object::{Find, Kind, Memory, Tree, WriteTo, encode};
 use gix_object_tests::samples::{id, path_of, tree_of};
-use gixobj_callers::planner::{PlanError, RootError, with_entry_in_stored};
+use gixobj_callers::planner::{PlanError, RootError, is_tree, with_entry_in_stored};
 use std::alloc::Global;
 
 /// Encodes a tree.
@@ -34,7 +33,7 @@ fn insert_tree(
 }
 
 /// A store with a file of the first id at the path of `names`, its last name first, and the id of the root.
-pub(super) fn stored(alloc: Global, names: &[&str]) -> (Memory, ObjectId) {
+pub(crate) fn stored(alloc: Global, names: &[&str]) -> (Memory, ObjectId) {
     let mut store = Memory::new(alloc);
     let mut kind = EntryKind::Blob;
     let mut oid = id(FIRST);
@@ -100,10 +99,20 @@ fn inserts_file_into_stored_and_empty_trees(rt: HostRuntime) {
     assert!(rt; outcome(alloc, (Never, empty), &["hello.txt"], FIRST) == "hello alone");
 }
 
+/// The encoding of a tree with the file `test.txt`, as `git mktree` writes it.
+const ENCODED: &[u8] =
+    b"100644 test.txt\0\x83\xba\xae\x61\x80\x4e\x65\xcc\x73\xa7\x20\x1a\x72\x52\x75\x0c\x76\x06\x6a\x30";
+
+/// `ENCODED` without its last byte.
+const TRUNCATED: &[u8] =
+    b"100644 test.txt\0\x83\xba\xae\x61\x80\x4e\x65\xcc\x73\xa7\x20\x1a\x72\x52\x75\x0c\x76\x06\x6a";
+
 #[test]
 fn rejects_invalid_roots_and_names(rt: HostRuntime) {
     let alloc = rt.alloc();
     let null = ObjectId::null(HashKind::Sha1);
+    assert!(rt; is_tree(ENCODED, HashKind::Sha1));
+    assert!(rt; !is_tree(TRUNCATED, HashKind::Sha1));
     assert!(rt; outcome(alloc, (Never, null), &["x"], SECOND) == "no root");
     assert!(rt; outcome(alloc, stored(alloc, &["a/b"]), &["x"], SECOND) == "malformed root");
     assert!(rt; outcome(alloc, stored(alloc, &["b"]), &["x", ""], SECOND) == "empty name");

@@ -2,8 +2,7 @@
 ghost use Rattle.gix_object.specs.CommitViews.{commit_lines};
 ghost use Rattle.gix_object.specs.Hash.{IsIdHex};
 
-use super::TREE as TARGET;
-use crate::samples::is_copy;
+use crate::samples::{TREE as TARGET, is_copy};
 use bstr::BStr;
 use gix_object::hash::Kind;
 use gix_object::{CommitRef, TagRef};

@@ -1,7 +1,6 @@
 //! Edits that are imported into a store.
 
-use super::{FIRST, SECOND};
-use crate::samples::is_root;
+use crate::samples::{FIRST, SECOND, is_root};
 use gix_object::hash::Kind;
 use gix_object::tree::editor::{Editor, Error, WriteError, Written};
 use gix_object::{Memory, Tree, encode};
