@@ -92,9 +92,9 @@ pub use Rattle.gixobj_line.specs.Lines
 pub use Rattle.gixobj_line.specs.TagLines
 pub use Rattle.gixobj_line.specs.TagPrefix
 pub use Rattle.gixobj_line.specs.declared as line
-pub use Rattle.gixobj_mode.specs.Mode
-pub use Rattle.gixobj_mode.specs.ModeNumber
-pub use Rattle.gixobj_mode.specs.declared as mode
+pub use Rattle.gixobj_entries.specs.Mode
+pub use Rattle.gixobj_entries.specs.ModeNumber
+pub use Rattle.gixobj_entries.specs.declared as mode
 pub use Rattle.gixobj_object.specs.BorrowedObjects
 pub use Rattle.gixobj_object.specs.LooseObjects
 pub use Rattle.gixobj_object.specs.ObjectReading

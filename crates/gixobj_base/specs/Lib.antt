@@ -22,9 +22,9 @@ pub use Rattle.gixobj_hash.specs.Hash
 pub use Rattle.gixobj_hash.specs.Kind
 pub use Rattle.gixobj_hash.specs.ByteStrings
 pub use Rattle.gixobj_hash.specs.declared as hash
-pub use Rattle.gixobj_mode.specs.Mode
-pub use Rattle.gixobj_mode.specs.ModeNumber
-pub use Rattle.gixobj_mode.specs.declared as mode
+pub use Rattle.gixobj_entries.specs.Mode
+pub use Rattle.gixobj_entries.specs.ModeNumber
+pub use Rattle.gixobj_entries.specs.declared as mode
 pub use Rattle.gixobj_tree.specs.TreeEncoding
 pub use Rattle.gixobj_tree.specs.TreeSizes
 pub use Rattle.gixobj_tree.specs.WellFormed

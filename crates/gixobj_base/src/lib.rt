@@ -6,7 +6,7 @@
 //! - [`gixobj_hash`]: ids, kinds and loose headers;
 //! - [`gixobj_fields`]: header fields, sinks and the trait of objects that can be written;
 //! - [`gixobj_actor`]: actors and times;
-//! - [`gixobj_mode`], [`gixobj_entries`] and [`gixobj_tree`]: modes, entries, trees and blobs.
+//! - [`gixobj_entries`], [`gixobj_entries`] and [`gixobj_tree`]: modes, entries, trees and blobs.
 #![tactic(auto)]
 
 pub mod encode;

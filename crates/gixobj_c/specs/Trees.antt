@@ -5,7 +5,7 @@ use Rattle.gixobj_c.specs.Spans.{IsSpanOf}
 use Rattle.gixobj_c.specs.declared.trees.TreeEntry.{TreeEntry}
 use Rattle.gixobj_hash.specs.Hash.{id_bytes}
 use Rattle.gixobj_hash.specs.declared.hash.kind.Kind.{Kind}
-use Rattle.gixobj_mode.specs.Mode.{mode_value}
+use Rattle.gixobj_entries.specs.Mode.{mode_value}
 use Rattle.gixobj_entries.specs.Entries.{EntryView}
 use Rattle.gixobj_entries.specs.TreeDecoding.{BeginsWithEntry, BeginsWithNoEntry}
 

@@ -14,7 +14,7 @@ use Rattle.gixobj_files.proofs.OpenedFiles.{same_name_false}
 use Rattle.gixobj_sorted.proofs.Sublists.{all_both, all_weaker}
 use Rattle.gixobj_entries.specs.Entries.{EntryView}
 use Rattle.gixobj_entries.specs.KeyOrder.{ComesBefore, entry_key, key_of}
-use Rattle.gixobj_mode.specs.Mode.{is_tree_mode}
+use Rattle.gixobj_entries.specs.Mode.{is_tree_mode}
 use Rattle.gixobj_open.specs.declared.open.Child.{Child}
 use Rattle.gixobj_open.specs.Children.{pairs_after_next, next_child}
 use Rattle.gixobj_directories.specs.WriteErrors.{child_side}

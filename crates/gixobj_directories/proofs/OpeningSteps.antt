@@ -9,7 +9,7 @@ use Rattle.std.specs.List.{AllByRecursion, find}
 use Rattle.std.specs.Cmp.Lexicographic.{bytes_decides}
 use Rattle.gixobj_entries.specs.Entries.{EntryView}
 use Rattle.gixobj_tree.specs.WellFormed.{EachLater, IsWellFormed}
-use Rattle.gixobj_mode.specs.Mode.{is_tree_mode}
+use Rattle.gixobj_entries.specs.Mode.{is_tree_mode}
 use Rattle.gixobj_hash.specs.declared.hash.object_id.ObjectId.{ObjectId}
 use Rattle.gixobj_files.specs.Editing.{same_name}
 use Rattle.gixobj_files.specs.Edits.{Finds, IsEntryOf, Opens, counted, down, found, only_open, raised, stops, with_dir}

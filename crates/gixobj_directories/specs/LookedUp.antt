@@ -7,7 +7,7 @@ use Rattle.gixobj_files.specs.Tables.{IsNeverLookedUp}
 use Rattle.gixobj_hash.specs.declared.hash.kind.Kind.{Kind}
 use Rattle.gixobj_hash.specs.declared.kind.Kind.TheVariants.{Tree}
 use Rattle.gixobj_entries.specs.Entries.{EntryView}
-use Rattle.gixobj_mode.specs.Mode.{is_tree_mode}
+use Rattle.gixobj_entries.specs.Mode.{is_tree_mode}
 use Rattle.gixobj_directories.specs.Openings.{NamesTree}
 
 -- the entry is a directory's: it is of tree mode, and its id is looked up and names a well-formed tree

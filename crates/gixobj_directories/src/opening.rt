@@ -3,7 +3,7 @@ ghost use Rattle.std.specs.Prelude.{◌≡◌, ◌↔◌, ◌∷◌, ◌≤◌, 
 ghost use Rattle.bstr.specs.Owned.{bstring_bytes};
 ghost use Rattle.gixobj_entries.specs.Entries.{EntryView};
 ghost use Rattle.gixobj_tree.specs.WellFormed.{IsWellFormed};
-ghost use Rattle.gixobj_mode.specs.Mode.{is_tree_mode};
+ghost use Rattle.gixobj_entries.specs.Mode.{is_tree_mode};
 ghost use Rattle.gixobj_files.specs.Edits.{Finds, IsEntryOf, Opens, counted};
 ghost use Rattle.gixobj_files.specs.Files.{ContainsEntry, Path};
 ghost use Rattle.gixobj_files.specs.OpeningStops.{StopsOpening};

@@ -33,7 +33,7 @@ use Rattle.gixobj_hash.specs.declared.hash.kind.Kind.{Kind}
 use Rattle.gixobj_hash.specs.declared.hash.object_id.ObjectId.{ObjectId}
 use Rattle.gixobj_keep.specs.Memory.{memory_objects}
 use Rattle.gixobj_keep.specs.declared.memory.Memory.{Memory}
-use Rattle.gixobj_mode.specs.Mode.{mode_of_kind}
+use Rattle.gixobj_entries.specs.Mode.{mode_of_kind}
 use Rattle.gixobj_script.specs.Edits.{IsScriptRunError, memory_model}
 use Rattle.gixobj_script.specs.Scripts.{IsFirstBad, IsScript}
 use Rattle.gixobj_script.specs.declared.script.ScriptError.TheVariants as parsing

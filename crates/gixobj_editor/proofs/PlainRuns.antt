@@ -33,7 +33,7 @@ use Rattle.gixobj_hash.specs.declared.hash.object_id.ObjectId.{ObjectId}
 use Rattle.gixobj_store.specs.Stores.{StoreModel}
 use Rattle.gixobj_editor.specs.declared.editor.error.Error.{Error}
 use Rattle.gixobj_entries.specs.Entries.{EntryView, Pair}
-use Rattle.gixobj_mode.specs.Mode.{is_tree_mode}
+use Rattle.gixobj_entries.specs.Mode.{is_tree_mode}
 use Rattle.gixobj_editor.proofs.Paths.{directory_of_snoc}
 use Rattle.gixobj_editor.proofs.Removing.{path_nil_or_snoc}
 

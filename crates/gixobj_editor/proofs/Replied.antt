@@ -21,8 +21,8 @@ use Rattle.gixobj_entries.specs.Entries.{EntryView}
 use Rattle.gixobj_tree.specs.WellFormed.{IsWellFormed}
 use Rattle.gixobj_files.specs.State.{EditorFiles, State, open_bases, open_dirs, root_alone}
 use Rattle.gixobj_hash.specs.declared.hash.object_id.ObjectId.{ObjectId}
-use Rattle.gixobj_mode.specs.Mode.{mode_of_kind}
-use Rattle.gixobj_mode.specs.declared.entry_kind.EntryKind.{EntryKind}
+use Rattle.gixobj_entries.specs.Mode.{mode_of_kind}
+use Rattle.gixobj_entries.specs.declared.entry_kind.EntryKind.{EntryKind}
 use Rattle.gixobj_editor.specs.Commands.{Location, at_cursor, path_at}
 use Rattle.gixobj_editor.specs.Replies.{Answers, AreEditReplies, IsEditReply, IsFailedEdit, IsReplyAt, IsRootSet, IsEditErrorAt, reply_to}
 use Rattle.gixobj_editor.specs.declared.reply.EditReply.{EditReply}

@@ -24,9 +24,9 @@ use Rattle.gixobj_files.specs.State.{DirMap, EditorFiles, State, root_alone}
 use Rattle.gixobj_files.specs.Tables.{AgreesWithPairs, HasOneIdPerTree}
 use Rattle.gixobj_hash.specs.declared.hash.object_id.ObjectId.{ObjectId}
 use Rattle.gixobj_entries.specs.Entries.{EntryView, Pair}
-use Rattle.gixobj_mode.specs.Mode.{is_tree_mode, mode_of_kind}
-use Rattle.gixobj_mode.specs.declared.entry_kind.EntryKind.{EntryKind}
-use Rattle.gixobj_mode.specs.declared.entry_kind.EntryKind.TheVariants as kind
+use Rattle.gixobj_entries.specs.Mode.{is_tree_mode, mode_of_kind}
+use Rattle.gixobj_entries.specs.declared.entry_kind.EntryKind.{EntryKind}
+use Rattle.gixobj_entries.specs.declared.entry_kind.EntryKind.TheVariants as kind
 use Rattle.gixobj_editor.specs.Commands.{Location, accepted_steps, at_cursor, at_root, steps_of, steps_of_edit, steps_of_edits}
 use Rattle.gixobj_editor.specs.PlainRuns.{NamesNoTree, InsertsNoTree, files_before}
 use Rattle.gixobj_editor.specs.declared.reply.EditReply.{EditReply}

@@ -11,7 +11,7 @@ use Rattle.gixobj_editor.specs.Cursors.{from_root, cursor_path}
 use Rattle.gixobj_files.specs.Files.{Path}
 use Rattle.gixobj_files.specs.History.{Step, ensure, remove, set_root, upsert}
 use Rattle.gixobj_entries.specs.Entries.{Pair}
-use Rattle.gixobj_mode.specs.Mode.{mode_of_kind}
+use Rattle.gixobj_entries.specs.Mode.{mode_of_kind}
 use Rattle.gixobj_editor.specs.declared.reply.EditReply.{EditReply}
 use Rattle.gixobj_editor.specs.declared.reply.EditReply.TheVariants as edit_reply
 use Rattle.gixobj_editor.specs.declared.reply.Reply.{Reply}

@@ -10,7 +10,7 @@ use Rattle.gixobj_files.specs.Files.{FileSet, SameFiles, Table}
 use Rattle.gixobj_files.specs.PlainHistory.{NoFiles, PlainFilesAfter}
 use Rattle.gixobj_files.specs.State.{State, root_alone}
 use Rattle.gixobj_files.specs.Tables.{HasOneIdPerTree}
-use Rattle.gixobj_mode.specs.declared.entry_kind.EntryKind.TheVariants.{Tree}
+use Rattle.gixobj_entries.specs.declared.entry_kind.EntryKind.TheVariants.{Tree}
 use Rattle.gixobj_editor.specs.Commands.{accepted_steps, emitted_pairs, written_at}
 use Rattle.gixobj_editor.specs.RunTables.{AgreesWithRun}
 use Rattle.gixobj_editor.specs.declared.reply.Reply.{Reply}

@@ -29,7 +29,7 @@ use Rattle.gixobj_keep.specs.Keeping.{StopsKeepingAt, with_trees}
 use Rattle.gixobj_entries.specs.Entries.{EntryView, Pair}
 use Rattle.gixobj_tree.specs.WellFormed.{IsWellFormed}
 use Rattle.gixobj_tree.specs.TreeEncoding.{IsEncodableTree}
-use Rattle.gixobj_mode.specs.Mode.{mode_of_kind}
+use Rattle.gixobj_entries.specs.Mode.{mode_of_kind}
 use Rattle.gixobj_editor.specs.Commands.{Location, at_cursor, at_root, path_at}
 use Rattle.gixobj_editor.specs.declared.reply.EditReply.{EditReply}
 use Rattle.gixobj_editor.specs.declared.reply.EditReply.TheVariants as edit_reply

@@ -6,7 +6,7 @@ ghost use Rattle.std.specs.Borrow.{Lends, sem};
 ghost use Rattle.std.specs.Option.{option_copied};
 ghost use Rattle.gixobj_store.specs.Stores.{store_model};
 ghost use Rattle.gixobj_tree.specs.WellFormed.{IsWellFormed};
-ghost use Rattle.gixobj_mode.specs.Mode.{mode_of_kind};
+ghost use Rattle.gixobj_entries.specs.Mode.{mode_of_kind};
 ghost use Rattle.gixobj_files.specs.Edits.{entry_at};
 ghost use Rattle.gixobj_files.specs.Files.{Files, SameFiles, Table};
 ghost use Rattle.gixobj_files.specs.Opening.{IsOpened};

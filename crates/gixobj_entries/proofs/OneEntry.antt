@@ -9,9 +9,9 @@ use Rattle.gixobj_hash.specs.declared.hash.object_id.ObjectId.{ObjectId}
 use Rattle.gixobj_hash.specs.declared.hash.object_id.ObjectId.TheVariants as id
 use Rattle.gixobj_hash.proofs.Splits.{no_split_of_byte_free, split_parts_unique}
 use Rattle.gixobj_hash.specs.ByteStrings.{IsByteFree, SplitsAt}
-use Rattle.gixobj_mode.proofs.EncodedModes.{octal_digits_space_free, split_at_space_unique}
+use Rattle.gixobj_entries.proofs.EncodedModes.{octal_digits_space_free, split_at_space_unique}
 use Rattle.gixobj_entries.specs.Entries.{EntryView, entry_of}
-use Rattle.gixobj_mode.specs.Mode.{BeginsWithMode, ObeysByteSix, DecodesToMode, mode_of_digits}
+use Rattle.gixobj_entries.specs.Mode.{BeginsWithMode, ObeysByteSix, DecodesToMode, mode_of_digits}
 use Rattle.gixobj_entries.specs.TreeDecoding.{BeginsWithEntry, BeginsWithId, BeginsWithNoEntry, IsIdOf}
 
 -- ---- ids

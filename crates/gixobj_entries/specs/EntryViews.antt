@@ -2,7 +2,7 @@
 use Rattle.bstr.specs.BStr.{bstr_bytes}
 use Rattle.gixobj_hash.specs.Hash.Borrowed.{borrowed_id}
 use Rattle.gixobj_entries.specs.Entries.{EntryView, entry_of}
-use Rattle.gixobj_mode.specs.Mode.{mode_bits}
+use Rattle.gixobj_entries.specs.Mode.{mode_bits}
 use Rattle.gixobj_entries.specs.declared.entry_ref.EntryRef.{EntryRef}
 
 -- the view of a borrowed entry: its mode, name and id

@@ -3,7 +3,10 @@ pub mod EntryOrder
 pub mod EntryOrderLaws
 pub mod EntryViews
 pub mod KeyOrder
+pub mod Mode
+pub mod ModeNumber
 pub mod TreeDecoding
-pub use Rattle.gixobj_hash.specs.Runs
 pub use Rattle.gixobj_hash.specs.ByteStrings
+pub use Rattle.gixobj_hash.specs.Bytes
 pub use Rattle.gixobj_hash.specs.Hash
+pub use Rattle.gixobj_hash.specs.Runs

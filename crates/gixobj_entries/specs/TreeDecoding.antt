@@ -11,7 +11,7 @@ use Rattle.gixobj_hash.specs.declared.hash.object_id.ObjectId.{ObjectId}
 use Rattle.gixobj_hash.specs.Bytes.{space}
 use Rattle.gixobj_hash.specs.ByteStrings.{IsByteFree}
 use Rattle.gixobj_entries.specs.Entries.{EntryView}
-use Rattle.gixobj_mode.specs.Mode.{ObeysByteSix, DecodesToMode}
+use Rattle.gixobj_entries.specs.Mode.{ObeysByteSix, DecodesToMode}
 
 -- an id of this kind, with the number of bytes of the kind
 abbrev pub IsIdOf : Kind → ObjectId → Type 0

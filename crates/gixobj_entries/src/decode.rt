@@ -7,11 +7,10 @@ ghost use Rattle.gixobj_hash.specs.ByteStrings.{IsByteFree, SplitsAt};
 ghost use Rattle.gixobj_entries.specs.TreeDecoding.{BeginsWithEntry, BeginsWithId, BeginsWithNoEntry};
 ghost use Rattle.gixobj_entries.specs.EntryViews.{entry_view};
 
-use crate::EntryRef;
+use crate::{EntryMode, EntryRef};
 use bstr::BStr;
 use gixobj_hash::hash::{Kind, oid};
 use gixobj_hash::split::split_at_byte;
-use gixobj_mode::EntryMode;
 use std::simd::prelude::*;
 
 /// Decodes the entry at the beginning of the input, with an id of this kind, and returns it and the rest.

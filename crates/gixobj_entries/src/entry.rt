@@ -8,10 +8,10 @@ ghost use Rattle.gixobj_entries.specs.KeyOrder.{entry_key};
 ghost use Rattle.gixobj_entries.specs.EntryOrder.{entry_cmp, entry_feed, same_entry};
 ghost use Rattle.gixobj_entries.specs.EntryOrderLaws.{entries_alike, entry_cmp_total, entry_equiv, entry_ties};
 
+use crate::EntryMode;
 use crate::order::key_order;
 use bstr::BString;
 use gixobj_hash::hash::ObjectId;
-use gixobj_mode::EntryMode;
 use std::cmp::Ordering;
 use std::hash::{Hash, Hasher};
 use std::marker::Model;
@@ -32,7 +32,7 @@ pub struct Entry {
 impl Model for Entry {
     ghost use Rattle.bstr.specs.Owned.{bstring_bytes};
     ghost use Rattle.gixobj_entries.specs.Entries.{EntryView};
-    ghost use Rattle.gixobj_mode.specs.Mode.{mode_bits};
+    ghost use Rattle.gixobj_entries.specs.Mode.{mode_bits};
 
     ghost Value = { EntryView };
 

@@ -6,10 +6,10 @@ ghost use Rattle.gixobj_entries.specs.EntryOrder.{entry_cmp, entry_feed, same_en
 ghost use Rattle.gixobj_entries.specs.EntryOrderLaws.{entries_alike, entry_cmp_total, entry_equiv, entry_ties};
 ghost use Rattle.gixobj_entries.specs.EntryViews.{entry_view};
 
+use crate::EntryMode;
 use crate::order::key_order;
 use bstr::BStr;
 use gixobj_hash::hash::oid;
-use gixobj_mode::EntryMode;
 use std::cmp::Ordering;
 use std::hash::{Hash, Hasher};
 

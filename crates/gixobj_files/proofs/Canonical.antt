@@ -8,7 +8,7 @@ use Rattle.std.proofs.lemmas.List.Elements.{All-contains}
 use Rattle.gixobj_entries.specs.Entries.{EntryView, Pair, entry_of}
 use Rattle.gixobj_entries.specs.KeyOrder.{ComesBefore, entry_key}
 use Rattle.gixobj_tree.specs.WellFormed.{EachLater, IsWellFormed}
-use Rattle.gixobj_mode.specs.Mode.{is_tree_mode, tree_type}
+use Rattle.gixobj_entries.specs.Mode.{is_tree_mode, tree_type}
 use Rattle.gixobj_hash.specs.declared.hash.object_id.ObjectId.{ObjectId}
 use Rattle.gixobj_files.specs.Files.{Below, Files, ContainsEntry, Path, SameFiles, Table, is_null}
 use Rattle.gixobj_files.specs.Tables.{AgreesWithPairs, HasOneIdPerTree}

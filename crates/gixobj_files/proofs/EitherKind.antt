@@ -8,7 +8,7 @@ use Rattle.std.specs.List.{AllByRecursion, filter, find}
 use Rattle.std.proofs.lemmas.Bool.{false_from_ne_true}
 use Rattle.std.proofs.lemmas.List.Elements.{All-contains}
 use Rattle.gixobj_hash.specs.ByteStrings.{IsByteFree}
-use Rattle.gixobj_mode.specs.Mode.{is_tree_mode}
+use Rattle.gixobj_entries.specs.Mode.{is_tree_mode}
 use Rattle.gixobj_entries.specs.Entries.{EntryView}
 use Rattle.gixobj_entries.specs.KeyOrder.{entry_key, key_of}
 use Rattle.gixobj_tree.specs.WellFormed.{EachLater, IsEntryName, IsWellFormed}

@@ -4,7 +4,7 @@ use Rattle.std.proofs.Common.{◌≡◌, ◌≢◌, ◌⊎◌, inl, inr, ⊎_eli
 use mathlib.Core.Bool.{true≢false}
 use Rattle.std.specs.Option.{option_map}
 use Rattle.gixobj_entries.specs.Entries.{EntryView}
-use Rattle.gixobj_mode.specs.Mode.{is_tree_mode, tree_type}
+use Rattle.gixobj_entries.specs.Mode.{is_tree_mode, tree_type}
 use Rattle.gixobj_hash.specs.declared.hash.object_id.ObjectId.{ObjectId}
 use Rattle.gixobj_files.specs.Editing.{has_tree, with_entry, without}
 use Rattle.gixobj_files.specs.Edits.{Finds, Opens, arrived, ensured_dirs, down, found, only_open, or_empty, removed_dirs, stops, upserted_dirs, with_dir, with_directory, with_path}

@@ -4,7 +4,7 @@ use mathlib.Core.Bool.{true≢false}
 use Rattle.std.specs.Prelude.{MatchOption}
 use Rattle.std.specs.Cmp.Lexicographic.{bytes_decides}
 use Rattle.gixobj_entries.specs.Entries.{EntryView}
-use Rattle.gixobj_mode.specs.Mode.{is_tree_mode}
+use Rattle.gixobj_entries.specs.Mode.{is_tree_mode}
 use Rattle.gixobj_hash.specs.declared.hash.object_id.ObjectId.{ObjectId}
 use Rattle.gixobj_files.specs.Editing.{same_name}
 use Rattle.gixobj_files.specs.Files.{Below, FileSet, Files, Path, SameFiles, Table, is_null, resolves_to}

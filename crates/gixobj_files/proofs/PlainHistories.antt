@@ -4,7 +4,7 @@ use Rattle.std.specs.Prelude.{MatchOption, IsFalse}
 use Rattle.std.specs.List.{AllByRecursion}
 use Rattle.std.proofs.lemmas.List.Elements.{recursion_from_All}
 use Rattle.gixobj_entries.specs.Entries.{EntryView}
-use Rattle.gixobj_mode.specs.Mode.{is_tree_mode}
+use Rattle.gixobj_entries.specs.Mode.{is_tree_mode}
 use Rattle.gixobj_hash.specs.declared.hash.object_id.ObjectId.{ObjectId}
 use Rattle.gixobj_files.specs.Files.{Below, FileSet, Files, Path, PlacedFile, Table, is_null}
 use Rattle.gixobj_files.specs.History.{FilesAfter, Step, after_step, ensure, remove, set_root, upsert}

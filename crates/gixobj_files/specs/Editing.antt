@@ -5,7 +5,7 @@ use Rattle.std.specs.Cmp.Lexicographic.{pointwise, slice_cmp}
 use Rattle.std.specs.Ordering.{is_lt, nat_cmp}
 use Rattle.gixobj_entries.specs.Entries.{EntryView}
 use Rattle.gixobj_entries.specs.KeyOrder.{entry_key}
-use Rattle.gixobj_mode.specs.Mode.{is_tree_mode}
+use Rattle.gixobj_entries.specs.Mode.{is_tree_mode}
 use Rattle.gixobj_files.specs.Files.{is_null}
 
 -- two names are equal byte by byte

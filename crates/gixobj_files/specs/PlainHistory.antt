@@ -2,7 +2,7 @@
 -- and no bound on their paths.
 use Rattle.std.specs.Prelude.{◌≡◌, ◌⊎◌, List, [], ◌∷◌, ℕ, ⊤, IsFalse, false}
 use Rattle.gixobj_hash.specs.declared.hash.object_id.ObjectId.{ObjectId}
-use Rattle.gixobj_mode.specs.Mode.{is_tree_mode}
+use Rattle.gixobj_entries.specs.Mode.{is_tree_mode}
 use Rattle.gixobj_files.specs.Files.{Ensured, Begins, FileSet, Path, Removed, is_null}
 use Rattle.gixobj_files.specs.History.{Step, ensure, remove, set_root, upsert}
 

@@ -2,7 +2,7 @@
 use Rattle.std.specs.Prelude.{ℕ, Bool, not, ◌&&◌, ◌++◌, true, false, List, [], ◌∷◌, Option, Some, None, if◌then◌else◌, length, map}
 use Rattle.std.specs.List.{filter}
 use Rattle.gixobj_entries.specs.Entries.{EntryView}
-use Rattle.gixobj_mode.specs.Mode.{is_tree_mode}
+use Rattle.gixobj_entries.specs.Mode.{is_tree_mode}
 use Rattle.gixobj_hash.specs.Hash.{id_bytes, id_kind, id_of}
 use Rattle.gixobj_hash.specs.declared.hash.object_id.ObjectId.{ObjectId}
 use Rattle.gixobj_hash.specs.declared.kind.Kind.TheVariants.{Tree}

@@ -3,7 +3,7 @@ ghost use Rattle.std.specs.Prelude.{◌≡◌, ◌&&◌, ◌⊎◌, ◌+◌, ◌
 ghost use Rattle.std.specs.List.{find};
 ghost use Rattle.std.specs.Option.{option_copied};
 ghost use Rattle.bstr.specs.Owned.{bstring_bytes};
-ghost use Rattle.gixobj_mode.specs.Mode.{is_tree_mode, mode_bits};
+ghost use Rattle.gixobj_entries.specs.Mode.{is_tree_mode, mode_bits};
 ghost use Rattle.gixobj_entries.specs.KeyOrder.{key_of};
 ghost use Rattle.gixobj_tree.specs.WellFormed.{IsEntryName, IsWellFormed};
 ghost use Rattle.gixobj_sorted.specs.Pieces.{AreNonEmpty, HoldsAtPiece, IsPieced, joined, pieces_at_most};

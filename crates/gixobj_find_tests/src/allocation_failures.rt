@@ -4,9 +4,9 @@
 use crate::existing::{Answer, Lookup, found, store_of};
 use crate::paths::{self, at_path};
 use crate::samples::{ROOT_BYTES, VERSION_1, bytes_of, id, two_trees};
+use gixobj_entries::EntryKind;
 use gixobj_hash::Kind;
 use gixobj_hash::hash::Kind as HashKind;
-use gixobj_mode::EntryKind;
 use std::alloc::Global;
 
 /// The two lookups of each kind of object.

@@ -2,10 +2,10 @@
 
 use crate::failing::{Failing, OFFLINE};
 use crate::samples::{BAK, ROOT, ROOT_BYTES, VERSION_1, id, names, stored_trees};
+use gixobj_entries::EntryKind;
 use gixobj_find::find;
 use gixobj_hash::Kind;
 use gixobj_hash::hash::{Kind as HashKind, ObjectId};
-use gixobj_mode::EntryKind;
 use gixobj_store::tree::path_names;
 use gixobj_store::{Find, TreeRefIter};
 use gixobj_tree::tree::Entry;

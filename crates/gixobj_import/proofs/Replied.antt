@@ -15,8 +15,8 @@ use Rattle.gixobj_files.specs.Files.{Trees}
 use Rattle.gixobj_files.specs.State.{State, open_dirs}
 use Rattle.gixobj_hash.specs.declared.hash.object_id.ObjectId.{ObjectId}
 use Rattle.gixobj_store.specs.Stores.{StoreModel}
-use Rattle.gixobj_mode.specs.Mode.{mode_of_kind}
-use Rattle.gixobj_mode.specs.declared.entry_kind.EntryKind.{EntryKind}
+use Rattle.gixobj_entries.specs.Mode.{mode_of_kind}
+use Rattle.gixobj_entries.specs.declared.entry_kind.EntryKind.{EntryKind}
 use Rattle.gixobj_editor.specs.Replies.{IsFailedEdit, reply_to}
 use Rattle.gixobj_import.specs.Edited.{IsReplied}
 

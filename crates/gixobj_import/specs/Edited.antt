@@ -13,7 +13,7 @@ use Rattle.gixobj_editor.specs.Commands.{at_root}
 use Rattle.gixobj_editor.specs.Replies.{Answers, IsEditReply}
 use Rattle.gixobj_editor.specs.declared.reply.EditReply.{EditReply}
 use Rattle.gixobj_editor.specs.declared.reply.EditReply.TheVariants as reply
-use Rattle.gixobj_mode.specs.Mode.{mode_of_kind}
+use Rattle.gixobj_entries.specs.Mode.{mode_of_kind}
 use Rattle.gixobj_tree.specs.TreeEncoding.{IsDigestResult}
 
 -- the steps of a history that an edit is; a write is none

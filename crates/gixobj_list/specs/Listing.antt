@@ -6,7 +6,7 @@ use Rattle.gixobj_hash.specs.Bytes.{newline, space}
 use Rattle.gixobj_hash.specs.Decode.{HasContent, IsShort}
 use Rattle.gixobj_entries.specs.Entries.{EntryView}
 use Rattle.gixobj_hash.specs.Hash.{encode_id_hex}
-use Rattle.gixobj_mode.specs.Mode.{entry_kind_name, kind_of_mode, encode_mode}
+use Rattle.gixobj_entries.specs.Mode.{entry_kind_name, kind_of_mode, encode_mode}
 use Rattle.gixobj_hash.specs.declared.hash.kind.Kind as hash
 use Rattle.gixobj_hash.specs.declared.kind.Kind.{Kind}
 use Rattle.gixobj_hash.specs.declared.kind.Kind.TheVariants.{Tree}

@@ -7,7 +7,7 @@ use Rattle.std.specs.Cmp.Lexicographic.{bytes_decides}
 use Rattle.gixobj_entries.specs.Entries.{EntryView}
 use Rattle.gixobj_tree.specs.WellFormed.{EachLater}
 use Rattle.gixobj_files.specs.Bases.{base_edited, base_opened}
-use Rattle.gixobj_mode.specs.Mode.{is_tree_mode}
+use Rattle.gixobj_entries.specs.Mode.{is_tree_mode}
 use Rattle.gixobj_files.proofs.HasTrees.{has_tree_of_entry}
 use Rattle.gixobj_files.specs.Edits.{IsEntryOf}
 use Rattle.gixobj_files.specs.Editing.{same_name}

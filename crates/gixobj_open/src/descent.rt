@@ -4,7 +4,7 @@ ghost use Rattle.std.specs.List.{AllByRecursion};
 ghost use Rattle.bstr.specs.Owned.{bstring_bytes};
 ghost use Rattle.gixobj_entries.specs.Entries.{EntryView};
 ghost use Rattle.gixobj_tree.specs.WellFormed.{IsEntryName};
-ghost use Rattle.gixobj_mode.specs.Mode.{mode_bits};
+ghost use Rattle.gixobj_entries.specs.Mode.{mode_bits};
 ghost use Rattle.gixobj_files.specs.Bases.{edited_bases};
 ghost use Rattle.gixobj_files.specs.Edits.{removed_dirs, upserted_dirs};
 ghost use Rattle.gixobj_files.specs.Files.{Path};

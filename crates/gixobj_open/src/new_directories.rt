@@ -3,7 +3,7 @@ ghost use Rattle.std.specs.Prelude.{◌≡◌, ◌≢◌, ◌∷◌, [], IfOk, N
 ghost use Rattle.std.specs.List.{AllByRecursion};
 ghost use Rattle.bstr.specs.Owned.{bstring_bytes};
 ghost use Rattle.gixobj_tree.specs.WellFormed.{IsEntryName};
-ghost use Rattle.gixobj_mode.specs.Mode.{mode_bits};
+ghost use Rattle.gixobj_entries.specs.Mode.{mode_bits};
 ghost use Rattle.gixobj_files.specs.Edits.{ensured_dirs, upserted_dirs, with_directory};
 ghost use Rattle.gixobj_files.specs.Files.{Path};
 ghost use Rattle.gixobj_open.specs.Paths.{names_of};

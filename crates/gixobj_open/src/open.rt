@@ -7,7 +7,7 @@ ghost use Rattle.gixobj_hash.specs.Bytes.{slash};
 ghost use Rattle.gixobj_hash.specs.ByteStrings.{IsByteFree};
 ghost use Rattle.gixobj_entries.specs.Entries.{EntryView};
 ghost use Rattle.gixobj_tree.specs.WellFormed.{IsEntryName, IsWellFormed};
-ghost use Rattle.gixobj_mode.specs.Mode.{mode_bits};
+ghost use Rattle.gixobj_entries.specs.Mode.{mode_bits};
 ghost use Rattle.gixobj_files.specs.Editing.{has_tree, same_name, with_entry, without};
 ghost use Rattle.gixobj_files.specs.Edits.{entry_at, removed_dirs, upserted_dirs, with_directory};
 ghost use Rattle.gixobj_files.specs.Files.{Path};

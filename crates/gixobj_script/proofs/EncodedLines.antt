@@ -14,9 +14,9 @@ use Rattle.gixobj_script.specs.ScriptPaths.{ArePathNames, root_path}
 use Rattle.gixobj_hash.proofs.Splits.{byte_free_of_all_pass, no_split_of_byte_free, split_parts_unique}
 use Rattle.gixobj_hash.specs.Bytes.{slash}
 use Rattle.gixobj_hash.specs.ByteStrings.{IsByteFree, SplitsAt}
-use Rattle.gixobj_mode.specs.Mode.{entry_kind_name}
-use Rattle.gixobj_mode.specs.declared.entry_kind.EntryKind.{EntryKind}
-use Rattle.gixobj_mode.specs.declared.entry_kind.EntryKind.TheVariants.{Blob, BlobExecutable, Commit, Link, Tree}
+use Rattle.gixobj_entries.specs.Mode.{entry_kind_name}
+use Rattle.gixobj_entries.specs.declared.entry_kind.EntryKind.{EntryKind}
+use Rattle.gixobj_entries.specs.declared.entry_kind.EntryKind.TheVariants.{Blob, BlobExecutable, Commit, Link, Tree}
 
 -- ---- the names of a path
 

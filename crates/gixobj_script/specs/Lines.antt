@@ -7,8 +7,8 @@ use Rattle.gixobj_hash.specs.declared.hash.object_id.ObjectId.{ObjectId}
 use Rattle.gixobj_script.specs.ScriptPaths.{ArePathNames}
 use Rattle.gixobj_hash.specs.Bytes.{space}
 use Rattle.gixobj_hash.specs.ByteStrings.{IsByteFree}
-use Rattle.gixobj_mode.specs.Mode.{entry_kind_name}
-use Rattle.gixobj_mode.specs.declared.entry_kind.EntryKind.{EntryKind}
+use Rattle.gixobj_entries.specs.Mode.{entry_kind_name}
+use Rattle.gixobj_entries.specs.declared.entry_kind.EntryKind.{EntryKind}
 
 -- a keyword, a space, and the rest
 abbrev pub keyword_and : List ℕ → List ℕ → List ℕ

@@ -3,8 +3,8 @@ ghost use Rattle.std.specs.Prelude.{◌≡◌, ◌≢◌, ℕ, List, codes, IfOk
 ghost use Rattle.gixobj_editor.specs.Views.{command_view, edit_view};
 ghost use Rattle.gixobj_hash.specs.declared.hash.object_id.ObjectId.{ObjectId};
 ghost use Rattle.gixobj_script.specs.Lines.{HasCommand, HasEdit, HasNoCommand, HasNoEdit, DecodesToCommand, DecodesToEdit, IsEntryAt, IsHexOfId, keyword_and};
-ghost use Rattle.gixobj_mode.specs.Mode.{entry_kind_name};
-ghost use Rattle.gixobj_mode.specs.declared.entry_kind.EntryKind.{EntryKind};
+ghost use Rattle.gixobj_entries.specs.Mode.{entry_kind_name};
+ghost use Rattle.gixobj_entries.specs.declared.entry_kind.EntryKind.{EntryKind};
 
 use crate::path::names_of_path;
 use gixobj_editor::{Command, Edit};

@@ -25,7 +25,7 @@ pub trait Named: Drop {
 }
 
 impl Named for Entry {
-    ghost use Rattle.gixobj_mode.specs.Mode.{is_tree_mode};
+    ghost use Rattle.gixobj_entries.specs.Mode.{is_tree_mode};
 
     ghost name_of = { λ e. e.name };
 

@@ -13,7 +13,7 @@ use Rattle.gixobj_entries.proofs.TiedBytes.{eq_of_slice_cmp_equal}
 use Rattle.gixobj_entries.specs.Entries.{EntryView}
 use Rattle.gixobj_entries.specs.KeyOrder.{entry_key, key_of, name_cmp}
 use Rattle.gixobj_tree.specs.WellFormed.{HasKey, IsEntryName, IsWellFormed}
-use Rattle.gixobj_mode.specs.Mode.{is_tree_mode}
+use Rattle.gixobj_entries.specs.Mode.{is_tree_mode}
 
 module _ {X Y : Type 0} (view : X → Y) (cmp : X → Ordering) (R : Y → Ordering) where
   -- the comparisons are those of the views

@@ -12,9 +12,9 @@ use Rattle.gixobj_hash.specs.declared.hash.kind.Kind.{Kind}
 use Rattle.gixobj_hash.specs.declared.hash.kind.Kind.TheVariants as hash
 use Rattle.gixobj_hash.proofs.Splits.{no_split_of_byte_free, split_parts_unique}
 use Rattle.gixobj_hash.specs.ByteStrings.{IsByteFree, SplitsAt}
-use Rattle.gixobj_mode.proofs.EncodedModes.{octal_digits_space_free}
+use Rattle.gixobj_entries.proofs.EncodedModes.{octal_digits_space_free}
 use Rattle.gixobj_entries.specs.Entries.{EntryView, entry_of}
-use Rattle.gixobj_mode.specs.Mode.{BeginsWithMode, ObeysByteSix, mode_of_digits}
+use Rattle.gixobj_entries.specs.Mode.{BeginsWithMode, ObeysByteSix, mode_of_digits}
 use Rattle.gixobj_entries.proofs.EntryRuns.{entry_run_unique, decodes_to_tree_of_run, yields_entries_iff}
 use Rattle.gixobj_entries.proofs.OneEntry.{Parted, entry_of_parts, no_entry_without_id, no_entry_without_name, parted_of_begins, entry_rest_len_lt}
 use Rattle.gixobj_entries.specs.TreeDecoding.{BeginsWithEntry, BeginsWithId, BeginsWithNoEntry, IsMalformedTree, DecodesToTree, YieldsEntries}

@@ -14,7 +14,7 @@ use Rattle.gixobj_streams.specs.Writing.{IsWritingError, LacksRoom, RejectedValu
 use Rattle.gixobj_streams.specs.declared.encode.Error.{Error}
 use Rattle.gixobj_streams.specs.declared.encode.Error.TheVariants.{OutOfMemory}
 use Rattle.gixobj_hash.specs.Hash.{id_bytes}
-use Rattle.gixobj_mode.specs.Mode.{encode_mode}
+use Rattle.gixobj_entries.specs.Mode.{encode_mode}
 use Rattle.gixobj_streams.proofs.Appends.{appends_prefix_first, appends_prefix_append, appends_all_append}
 use Rattle.gixobj_streams.proofs.Errors.{lacks_room_after, writing_error_within}
 

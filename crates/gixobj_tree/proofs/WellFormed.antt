@@ -15,7 +15,7 @@ use Rattle.gixobj_entries.proofs.TiedBytes.{eq_of_slice_cmp_equal, slice_cmp_equ
 use Rattle.gixobj_entries.specs.Entries.{EntryView}
 use Rattle.gixobj_entries.specs.KeyOrder.{ComesBefore, entry_key, key_of}
 use Rattle.gixobj_tree.specs.WellFormed.{AreApart, EachLater, HasKey, HasNamesake, HaveEntryNames, IsEntryName}
-use Rattle.gixobj_mode.specs.Mode.{is_tree_mode}
+use Rattle.gixobj_entries.specs.Mode.{is_tree_mode}
 use Rattle.gixobj_hash.specs.ByteStrings.{IsByteFree}
 
 module _ {X : Type 0} (R : X → X → Type 0) where

@@ -7,8 +7,7 @@ mod well_formed;
 pub mod write;
 
 pub use borrowed::{TreeRef, decode};
-pub use gixobj_entries::{Entry, EntryRef, name_order, order};
-pub use gixobj_mode::{EntryKind, EntryMode};
+pub use gixobj_entries::{Entry, EntryKind, EntryMode, EntryRef, name_order, order};
 use std::alloc::Global;
 use std::marker::Model;
 

@@ -18,7 +18,7 @@ ghost use Rattle.gixobj_files.specs.Opening.{IsOpened, in_path};
 ghost use Rattle.gixobj_files.specs.State.{open_bases, open_dirs};
 ghost use Rattle.gixobj_files.specs.Unopened.{with_empty_name};
 ghost use Rattle.gixobj_store.specs.Stores.{store_model};
-ghost use Rattle.gixobj_mode.specs.Mode.{mode_of_kind};
+ghost use Rattle.gixobj_entries.specs.Mode.{mode_of_kind};
 
 use super::names::{copy_names, join_paths, validate_names};
 use super::{Editor, Error, WriteError, Written};

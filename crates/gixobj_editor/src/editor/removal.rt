@@ -12,7 +12,7 @@ ghost use Rattle.gixobj_hash.specs.declared.hash.object_id.ObjectId.{ObjectId};
 ghost use Rattle.gixobj_hash.specs.Bytes.{slash};
 ghost use Rattle.gixobj_entries.specs.Entries.{EntryView};
 ghost use Rattle.gixobj_tree.specs.WellFormed.{IsEntryName};
-ghost use Rattle.gixobj_mode.specs.Mode.{is_tree_mode};
+ghost use Rattle.gixobj_entries.specs.Mode.{is_tree_mode};
 ghost use Rattle.gixobj_editor.specs.Upserts.{IsFirstNameError, StartsInvalid, directory_of};
 ghost use Rattle.gixobj_editor.specs.FailedEdits.{OpensInPart};
 ghost use Rattle.gixobj_editor.specs.Removals.{ValidatesUpTo, IsLeafDirectoryError, IsRemovalErrorUpTo};

@@ -6,7 +6,7 @@ ghost use Rattle.gixobj_hash.specs.Hash.{id_bytes};
 ghost use Rattle.gixobj_hash.specs.Hash.Borrowed.{borrowed_id};
 ghost use Rattle.gixobj_hash.specs.ByteStrings.{IsByteFree};
 ghost use Rattle.gixobj_entries.specs.Entries.{entry_of};
-ghost use Rattle.gixobj_mode.specs.Mode.{mode_bits, encode_mode};
+ghost use Rattle.gixobj_entries.specs.Mode.{mode_bits, encode_mode};
 ghost use Rattle.gixobj_entries.specs.EntryViews.{entry_view};
 ghost use Rattle.gixobj_tree.specs.TreeEncoding.{IsDigestResult, IsEntryEncodeError, encode_entry};
 ghost use Rattle.gixobj_tree.specs.TreeSizes.{encode_mode_and_name, with_ids};
@@ -15,12 +15,12 @@ ghost use Rattle.gixobj_streams.specs.Writing.{AddsSize, IsWritingError, LacksRo
 
 use super::{Entry, EntryMode, EntryRef, Tree};
 use bstr::BString;
+use gixobj_entries::{encode_kind, encoded_len};
 use gixobj_fields::WriteTo;
 use gixobj_fields::encode::Error;
 use gixobj_hash::Kind;
 use gixobj_hash::hash::{self, ObjectId, oid};
 use gixobj_hash::split::has_byte;
-use gixobj_mode::{encode_kind, encoded_len};
 use gixobj_streams::streams::{Sink, write_parts};
 use std::alloc::Global;
 use std::io;

@@ -1,7 +1,7 @@
 use Rattle.std.proofs.Common.{List, ℕ, subst, sym}
 use Rattle.gixobj_hash.specs.Hash.Borrowed.{borrowed_id}
 use Rattle.gixobj_entries.specs.Entries.{entry_of}
-use Rattle.gixobj_mode.specs.Mode.{mode_bits}
+use Rattle.gixobj_entries.specs.Mode.{mode_bits}
 use Rattle.gixobj_entries.proofs.OneEntry.{entry_of_parts, no_entry_without_id, no_entry_without_mode, no_entry_without_name, no_entry_without_space}
 use Rattle.gixobj_entries.proofs.decode.decode_entry.Goals as goal
 use Rattle.gixobj_entries.specs.TreeDecoding.{BeginsWithEntry}

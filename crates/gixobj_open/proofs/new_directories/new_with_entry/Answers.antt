@@ -4,7 +4,7 @@ use Rattle.std.proofs.lemmas.Result.{MatchResult-weaker}
 use Rattle.bstr.specs.Owned.{bstring_bytes}
 use Rattle.gixobj_entries.specs.Entries.{EntryView}
 use Rattle.gixobj_tree.specs.WellFormed.{IsEntryName}
-use Rattle.gixobj_mode.specs.Mode.{mode_bits}
+use Rattle.gixobj_entries.specs.Mode.{mode_bits}
 use Rattle.gixobj_files.specs.Edits.{only_open, upserted_dirs}
 use Rattle.gixobj_files.specs.Files.{Path}
 use Rattle.gixobj_files.specs.Opening.{Dirs}

@@ -1,6 +1,6 @@
 use Rattle.std.proofs.Common.{◌≡◌, ◌∙◌, List, ℕ, cond, ap, length, sym, rules, arith}
 use Rattle.bstr.specs.Owned.{bstring_bytes}
-use Rattle.gixobj_mode.specs.Mode.{is_tree_mode, mode_bits}
+use Rattle.gixobj_entries.specs.Mode.{is_tree_mode, mode_bits}
 use Rattle.gixobj_entries.specs.Entries.{EntryView}
 use Rattle.gixobj_files.proofs.WithEntry.{no_other_of_alone, with_entry_of_edits}
 use Rattle.gixobj_files.proofs.WellFormedEdits.{is_well_formed_with_entry}

@@ -5,7 +5,7 @@ use Rattle.std.specs.List.{AllByRecursion}
 use Rattle.bstr.specs.Owned.{bstring_bytes}
 use Rattle.gixobj_entries.specs.Entries.{EntryView}
 use Rattle.gixobj_tree.specs.WellFormed.{IsEntryName}
-use Rattle.gixobj_mode.specs.Mode.{mode_bits}
+use Rattle.gixobj_entries.specs.Mode.{mode_bits}
 use Rattle.gixobj_files.specs.Editing.{with_entry}
 use Rattle.gixobj_files.specs.Edits.{upserted_dirs, with_directory}
 use Rattle.gixobj_open.specs.Nested.{Part, child_list, dirs_of, in_part, opened, other_parts, parts, with_part}

@@ -2,7 +2,7 @@ use Rattle.std.proofs.Common.{◌<◌, length, subst, arith}
 use Rattle.std.specs.List.{AllByRecursion}
 use Rattle.std.proofs.lemmas.Result.{MatchResult-weaker}
 use Rattle.gixobj_tree.specs.WellFormed.{IsEntryName}
-use Rattle.gixobj_mode.specs.Mode.{mode_bits}
+use Rattle.gixobj_entries.specs.Mode.{mode_bits}
 use Rattle.gixobj_files.specs.Bases.{base_edited}
 use Rattle.gixobj_open.specs.Paths.{names_of}
 use Rattle.gixobj_open.proofs.BaseSteps.{editing}

@@ -1,6 +1,6 @@
 -- The editor's own edit, at the path from the root.
 use Rattle.std.proofs.Common.{◌∙◌, ap, subst, sym}
-use Rattle.gixobj_mode.specs.Mode.{mode_of_kind}
+use Rattle.gixobj_entries.specs.Mode.{mode_of_kind}
 use Rattle.gixobj_files.specs.Files.{Path}
 use Rattle.gixobj_directories.specs.Calls.{names_of}
 use Rattle.gixobj_directories.proofs.Emitting.{if_err_weaken}
