@@ -24,7 +24,7 @@ use std::alloc::Global;
 use std::borrow::CowSlice;
 
 /// The state of a commit's decoder: which lines may come next.
-#[derive(Clone, Copy, Debug)]
+#[derive(Clone, Copy)]
 pub enum State {
     /// The tree.
     Tree,
@@ -41,7 +41,7 @@ pub enum State {
 }
 
 /// A line of a commit, or a header of several lines. [`decode_line`] decodes one.
-#[derive(Debug, Drop)]
+#[derive(Drop)]
 pub enum Line<'a> {
     /// The hex of the tree's id.
     Tree(BStr<'a>),

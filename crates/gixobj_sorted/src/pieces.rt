@@ -13,7 +13,7 @@ use crate::search::{piece_of, position_in};
 use std::mem;
 
 /// What an insertion did.
-#[derive(Clone, Copy, Debug, PartialEq, Eq)]
+#[derive(Clone, Copy)]
 pub struct Inserted {
     /// `true` if no item was replaced.
     pub is_new: bool,

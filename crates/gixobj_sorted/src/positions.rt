@@ -12,7 +12,7 @@ use crate::search::{piece_of, position_in};
 ///
 /// The item at a position is `first[index]` for the piece 0, and else `more[piece - 1][index]`. An owner takes
 /// it by an index into its own fields, as `&mut` too, and leaves its key as it is.
-#[derive(Clone, Copy, Debug, PartialEq, Eq)]
+#[derive(Clone, Copy)]
 pub struct Position {
     /// The number of the piece. The first piece has the number 0.
     pub piece: usize,

@@ -9,7 +9,7 @@ use crate::commit::message::body::lines::{begins_indented, line_content};
 use crate::commit::message::body::trailer_lines::is_line_of_trailer;
 
 /// The counts of the lines of a run.
-#[derive(Clone, Copy, Debug)]
+#[derive(Clone, Copy)]
 pub(crate) struct LineCounts {
     /// The number of lines that count as trailers.
     trailers: usize,

@@ -9,7 +9,7 @@ use crate::commit::message::body::line_counts::LineCounts;
 use crate::commit::message::body::lines::{is_blank_line, line_content, split_line};
 
 /// The state of a scan after some lines.
-#[derive(Clone, Copy, Debug)]
+#[derive(Clone, Copy)]
 pub(crate) struct Scan {
     /// The number of bytes of the lines.
     position: usize,
