@@ -2,63 +2,61 @@ pub use Rattle.gixobj_actor.specs.Actor
 pub use Rattle.gixobj_actor.specs.ActorWriting
 pub use Rattle.gixobj_actor.specs.Date
 pub use Rattle.gixobj_actor.specs.declared as actor
-pub use Rattle.gixobj_codec.specs.SameSignatures
 pub use Rattle.gixobj_codec.specs.LineFields
 pub use Rattle.gixobj_codec.specs.OneMarker
 pub use Rattle.gixobj_codec.specs.ReceivedSignatures
+pub use Rattle.gixobj_codec.specs.SameSignatures
 pub use Rattle.gixobj_codec.specs.SignedEncodings
 pub use Rattle.gixobj_commit.specs.CommitOwned
 pub use Rattle.gixobj_commit.specs.CommitSigning
 pub use Rattle.gixobj_commit.specs.CommitViews
 pub use Rattle.gixobj_commit.specs.CommitWriting
 pub use Rattle.gixobj_commit.specs.ExtraHeaders
-pub use Rattle.gixobj_commit.specs.RemainingHeaders
 pub use Rattle.gixobj_commit.specs.Mergetags
+pub use Rattle.gixobj_commit.specs.RemainingHeaders
 pub use Rattle.gixobj_commit.specs.RemainingParents
 pub use Rattle.gixobj_commit.specs.Rewriting
 pub use Rattle.gixobj_commit.specs.declared as commit
 pub use Rattle.gixobj_directories.specs.Calls
-pub use Rattle.gixobj_directories.specs.WriteErrors
 pub use Rattle.gixobj_directories.specs.LookedUp
 pub use Rattle.gixobj_directories.specs.Openings
+pub use Rattle.gixobj_directories.specs.WriteErrors
 pub use Rattle.gixobj_directories.specs.declared as directories
 pub use Rattle.gixobj_editor.specs.Causes
 pub use Rattle.gixobj_editor.specs.Commands
 pub use Rattle.gixobj_editor.specs.Cursors
+pub use Rattle.gixobj_editor.specs.FailedEdits
 pub use Rattle.gixobj_editor.specs.PlainRuns
 pub use Rattle.gixobj_editor.specs.Removals
 pub use Rattle.gixobj_editor.specs.Replies
 pub use Rattle.gixobj_editor.specs.RunTables
 pub use Rattle.gixobj_editor.specs.Upserts
-pub use Rattle.gixobj_editor.specs.FailedEdits
 pub use Rattle.gixobj_editor.specs.Writes
 pub use Rattle.gixobj_editor.specs.declared as editor
 pub use Rattle.gixobj_entries.specs.Entries
 pub use Rattle.gixobj_entries.specs.EntryOrder
 pub use Rattle.gixobj_entries.specs.EntryViews
 pub use Rattle.gixobj_entries.specs.KeyOrder
+pub use Rattle.gixobj_entries.specs.Mode
+pub use Rattle.gixobj_entries.specs.ModeNumber
 pub use Rattle.gixobj_entries.specs.TreeDecoding
 pub use Rattle.gixobj_entries.specs.declared as entries
 pub use Rattle.gixobj_error.specs.Writes as ToolErrors
 pub use Rattle.gixobj_error.specs.declared as error
 pub use Rattle.gixobj_fields.specs.FieldWriting
-pub use Rattle.gixobj_fields.specs.HeaderReading
 pub use Rattle.gixobj_fields.specs.HeaderFormat
-pub use Rattle.gixobj_hash.specs.FieldFormat
+pub use Rattle.gixobj_fields.specs.HeaderReading
 pub use Rattle.gixobj_fields.specs.Iterators as FieldReaders
-pub use Rattle.gixobj_hash.specs.Runs
 pub use Rattle.gixobj_fields.specs.StreamHash
-pub use Rattle.gixobj_streams.specs.Streams
-pub use Rattle.gixobj_streams.specs.Writing
 pub use Rattle.gixobj_fields.specs.declared as fields
 pub use Rattle.gixobj_files.specs.Bases
 pub use Rattle.gixobj_files.specs.Editing
 pub use Rattle.gixobj_files.specs.Edits
-pub use Rattle.gixobj_files.specs.Files
-pub use Rattle.gixobj_files.specs.OpeningStops
 pub use Rattle.gixobj_files.specs.Emission
+pub use Rattle.gixobj_files.specs.Files
 pub use Rattle.gixobj_files.specs.History
 pub use Rattle.gixobj_files.specs.Opening
+pub use Rattle.gixobj_files.specs.OpeningStops
 pub use Rattle.gixobj_files.specs.PlainHistory
 pub use Rattle.gixobj_files.specs.State
 pub use Rattle.gixobj_files.specs.Tables
@@ -68,13 +66,17 @@ pub use Rattle.gixobj_find.specs.InMemory as MemoryCells
 pub use Rattle.gixobj_find.specs.NeverWrites
 pub use Rattle.gixobj_find.specs.Writers
 pub use Rattle.gixobj_find.specs.declared as find
+pub use Rattle.gixobj_formats.specs.Markers
+pub use Rattle.gixobj_formats.specs.declared as formats
+pub use Rattle.gixobj_hash.specs.ByteStrings
 pub use Rattle.gixobj_hash.specs.Bytes
 pub use Rattle.gixobj_hash.specs.Decode
 pub use Rattle.gixobj_hash.specs.Encode
+pub use Rattle.gixobj_hash.specs.FieldFormat
 pub use Rattle.gixobj_hash.specs.Hash
 pub use Rattle.gixobj_hash.specs.Kind
 pub use Rattle.gixobj_hash.specs.Optional
-pub use Rattle.gixobj_hash.specs.ByteStrings
+pub use Rattle.gixobj_hash.specs.Runs
 pub use Rattle.gixobj_hash.specs.declared as hash
 pub use Rattle.gixobj_import.specs.ByDigest
 pub use Rattle.gixobj_import.specs.Commits
@@ -92,24 +94,21 @@ pub use Rattle.gixobj_line.specs.Lines
 pub use Rattle.gixobj_line.specs.TagLines
 pub use Rattle.gixobj_line.specs.TagPrefix
 pub use Rattle.gixobj_line.specs.declared as line
-pub use Rattle.gixobj_entries.specs.Mode
-pub use Rattle.gixobj_entries.specs.ModeNumber
-pub use Rattle.gixobj_entries.specs.declared as mode
 pub use Rattle.gixobj_object.specs.BorrowedObjects
 pub use Rattle.gixobj_object.specs.LooseObjects
 pub use Rattle.gixobj_object.specs.ObjectReading
 pub use Rattle.gixobj_object.specs.Objects
 pub use Rattle.gixobj_object.specs.Parts
 pub use Rattle.gixobj_object.specs.declared as object
-pub use Rattle.gixobj_ref_iter.specs.CommitRuns
-pub use Rattle.gixobj_ref_iter.specs.CommitTokens
 pub use Rattle.gixobj_ref_iter.specs.CommitExtracting
+pub use Rattle.gixobj_ref_iter.specs.CommitRuns
+pub use Rattle.gixobj_ref_iter.specs.CommitTokenSteps
+pub use Rattle.gixobj_ref_iter.specs.CommitTokens
 pub use Rattle.gixobj_ref_iter.specs.Readers
 pub use Rattle.gixobj_ref_iter.specs.TagExtracting
 pub use Rattle.gixobj_ref_iter.specs.TagReaders
 pub use Rattle.gixobj_ref_iter.specs.TagTokenSteps
 pub use Rattle.gixobj_ref_iter.specs.TokenFilters
-pub use Rattle.gixobj_ref_iter.specs.CommitTokenSteps
 pub use Rattle.gixobj_ref_iter.specs.TokenSearch
 pub use Rattle.gixobj_ref_iter.specs.declared as ref_iter
 pub use Rattle.gixobj_report.specs.Fields
@@ -132,28 +131,29 @@ pub use Rattle.gixobj_store.specs.Lookups
 pub use Rattle.gixobj_store.specs.Stores
 pub use Rattle.gixobj_store.specs.TreeReaders
 pub use Rattle.gixobj_store.specs.declared as store
+pub use Rattle.gixobj_streams.specs.Streams
+pub use Rattle.gixobj_streams.specs.Writing
 pub use Rattle.gixobj_tag.specs.NameRule
 pub use Rattle.gixobj_tag.specs.Rewriting as TagRewriting
 pub use Rattle.gixobj_tag.specs.Signed
+pub use Rattle.gixobj_tag.specs.TagFormat
 pub use Rattle.gixobj_tag.specs.TagOwned
 pub use Rattle.gixobj_tag.specs.TagSigning
-pub use Rattle.gixobj_tag.specs.TagFormat
 pub use Rattle.gixobj_tag.specs.TagViews
 pub use Rattle.gixobj_tag.specs.TagWriting
 pub use Rattle.gixobj_tag.specs.declared as tag
-pub use Rattle.gixobj_text.specs.MessageBlocks
+pub use Rattle.gixobj_text.specs.BlockSteps
 pub use Rattle.gixobj_text.specs.Bodies
 pub use Rattle.gixobj_text.specs.BodyLines
-pub use Rattle.gixobj_text.specs.FirstLines
 pub use Rattle.gixobj_text.specs.Filters
-pub use Rattle.gixobj_text.specs.BlockSteps
-pub use Rattle.gixobj_text.specs.TrailerSteps
-pub use Rattle.gixobj_text.specs.Markers
+pub use Rattle.gixobj_text.specs.FirstLines
+pub use Rattle.gixobj_text.specs.MessageBlocks
 pub use Rattle.gixobj_text.specs.MessageTrailers
 pub use Rattle.gixobj_text.specs.SummaryPieces
 pub use Rattle.gixobj_text.specs.Titles
 pub use Rattle.gixobj_text.specs.TrailerBlocks
 pub use Rattle.gixobj_text.specs.TrailerNames
+pub use Rattle.gixobj_text.specs.TrailerSteps
 pub use Rattle.gixobj_text.specs.Trailers
 pub use Rattle.gixobj_text.specs.Unfolding
 pub use Rattle.gixobj_text.specs.declared as message

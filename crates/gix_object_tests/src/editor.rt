@@ -8,7 +8,7 @@ ghost use Rattle.gix_object.specs.Mode.{mode_of_kind};
 ghost use Rattle.gix_object.specs.Openings.{OfTrees};
 ghost use Rattle.gix_object.specs.State.{EditorFiles, open_bases, open_dirs};
 ghost use Rattle.gix_object.specs.Tables.{AgreesWithPairs, AgreesWithStore};
-ghost use Rattle.gix_object.specs.mode.entry_kind.EntryKind.TheVariants.{Blob};
+ghost use Rattle.gix_object.specs.entries.entry_kind.EntryKind.TheVariants.{Blob};
 
 use crate::samples::{id, path_of};
 use bstr::BString;

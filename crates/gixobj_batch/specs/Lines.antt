@@ -4,8 +4,8 @@ use Rattle.gix_object.specs.Bytes.{greater_than, newline, slash, space, tab}
 use Rattle.gix_object.specs.Files.{Path}
 use Rattle.gix_object.specs.Hash.{encode_id_hex, id_kind, null_id}
 use Rattle.gix_object.specs.Mode.{encode_mode, kind_of_mode, mode_bits, mode_of_kind}
-use Rattle.gix_object.specs.mode.entry_kind.EntryKind.{EntryKind}
-use Rattle.gix_object.specs.mode.entry_kind.EntryKind.TheVariants as entry
+use Rattle.gix_object.specs.entries.entry_kind.EntryKind.{EntryKind}
+use Rattle.gix_object.specs.entries.entry_kind.EntryKind.TheVariants as entry
 use Rattle.gixobj_listings.specs.Changes.{ChangeView, VersionView}
 use Rattle.gixobj_listings.specs.FileLists.{FileView}
 use Rattle.gixobj_listings.specs.Histories.{LoggedView}

@@ -6,10 +6,10 @@ ghost use Rattle.gixobj_c.specs.Signatures.{IsCommitSignatureCall, IsTagSignatur
 use crate::spans::{Span, span_before};
 use gixobj_calls::buffers::write_two;
 use gixobj_calls::codes::{DONE, MALFORMED, NOT_FOUND, OUT_OF_MEMORY, UNKNOWN_CODE, hash_of_code};
+use gixobj_formats::signature;
 use gixobj_hash::OutOfMemory;
 use gixobj_hash::decode::Error;
 use gixobj_hash::hash::Kind;
-use gixobj_text::signature;
 use gixobj_tokens::commit::find_signature;
 use std::alloc::Global;
 

@@ -9,6 +9,10 @@ tab = 9
 abbrev pub newline : ℕ
 newline = 10
 
+-- a carriage return
+abbrev pub carriage_return : ℕ
+carriage_return = 13
+
 -- a space
 abbrev pub space : ℕ
 space = 32

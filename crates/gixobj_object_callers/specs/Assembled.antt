@@ -1,8 +1,8 @@
 -- Messages of a title and trailers, each of one line (git-interpret-trailers, "DESCRIPTION").
 use Rattle.std.specs.Prelude.{◌≡◌, ◌≢◌, ◌++◌, ◌∷◌, ℕ, All, List, [], Option, None, Some, if◌then◌else◌, length, map, ⊤}
 use Rattle.std.specs.List.{AllPass, concat}
-use Rattle.gix_object.specs.Bytes.{newline, space}
-use Rattle.gix_object.specs.BodyLines.{carriage_return, colon, is_token_byte, without_last_byte}
+use Rattle.gix_object.specs.Bytes.{carriage_return, newline, space}
+use Rattle.gix_object.specs.BodyLines.{colon, is_token_byte, without_last_byte}
 use Rattle.gix_object.specs.ByteStrings.{IsByteFree, trimmed}
 use Rattle.gix_object.specs.MessageTrailers.{HasTrailers}
 use Rattle.gix_object.specs.Titles.{SplitsTitle}

@@ -1,8 +1,8 @@
 //! An assembler of messages (git-interpret-trailers).
 ghost use Rattle.std.specs.Prelude.{◌≡◌, ◌↔◌, ◌++◌, ◌∷◌, [], All, IfErr, IfOk, IsFalse, IsTrue, OnOk};
-ghost use Rattle.gix_object.specs.Bytes.{newline};
+ghost use Rattle.gix_object.specs.Bytes.{carriage_return, newline};
 ghost use Rattle.gix_object.specs.BodyLines as lines;
-ghost use Rattle.gix_object.specs.BodyLines.{carriage_return, without_last_byte};
+ghost use Rattle.gix_object.specs.BodyLines.{without_last_byte};
 ghost use Rattle.gixobj_object_callers.specs.Assembled.{IsDescribedMessageOf, IsLineTrailer, IsMessageError, IsMessageOf, IsTitleError, IsTitleLine, IsToken, IsTrailerError, trailer_line, trailer_lines, trailer_section};
 
 pub mod laws;

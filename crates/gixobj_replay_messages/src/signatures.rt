@@ -6,6 +6,7 @@ use gixobj_base::date::parse_header;
 use gixobj_base::parse::split_at_byte;
 use gixobj_base::{OutOfMemory, WriteTo, hash};
 use gixobj_codec::{CommitRef, CommitRefIter, TagRef, TagRefIter};
+use gixobj_formats::signature::{Format, find};
 use gixobj_recorded::answer::{Answer, Form};
 use gixobj_recorded::fields::{fault, kind_of_ids, split_at_first};
 use gixobj_recorded::objects::encoded;
@@ -13,7 +14,6 @@ use gixobj_signature::signature::verify::{
     self, Outcome, TrustLevel, parse_gpg_output, parse_ssh_output,
 };
 use gixobj_signature::signature::{Call, Output, RunError, Runner, SignedData, Word, sign};
-use gixobj_text::signature::{Format, find};
 use std::alloc::Global;
 
 /// The human-readable output of each report of OpenPGP and of X.509.

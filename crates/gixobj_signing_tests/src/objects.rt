@@ -5,11 +5,11 @@ use crate::calls::{Maker, ScriptedAnswer, Step};
 use crate::scripted::Played;
 use crate::signing::name_of;
 use gixobj_fields::{WriteTo, encode};
+use gixobj_formats::signature::Format;
 use gixobj_hash::decode;
 use gixobj_hash::hash::Kind;
 use gixobj_signature::signature::SignedData;
 use gixobj_signature::signature::sign::{Error, Options, is_literal_ssh_key};
-use gixobj_text::signature::Format;
 use std::alloc::Global;
 
 /// A row of an object to be signed.

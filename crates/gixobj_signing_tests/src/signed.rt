@@ -8,10 +8,10 @@ use crate::signing::CREATED;
 use crate::tags::{is_tag_signature, of_tag};
 use crate::verifying::options_of;
 use bstr::BString;
+use gixobj_formats::signature::Format;
 use gixobj_hash::hash::Kind::Sha1;
 use gixobj_signature::signature::report::{TrustLevel, parse_ssh_output};
 use gixobj_signature::signature::verify;
-use gixobj_text::signature::Format;
 use std::alloc::{AllocError, Global};
 
 /// The answer of a program that signs a commit.

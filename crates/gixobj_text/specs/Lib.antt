@@ -7,8 +7,6 @@ pub mod Filters
 pub mod FirstLines
 pub mod BlockSteps
 pub mod TrailerSteps
-pub mod LineWalk
-pub mod Markers
 pub mod MessageTrailers
 pub mod Scanned
 pub mod Scanning

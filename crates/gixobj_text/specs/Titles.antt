@@ -3,8 +3,7 @@ use Rattle.std.specs.Prelude.{◌≡◌, ◌≢◌, ◌⊎◌, ◌≤◌, ◌==�
 use Rattle.std.specs.Char.{is_ascii_whitespace, is_whitespace}
 use Rattle.std.specs.List.{list_all, prefix_len, slice_split, take_while}
 use Rattle.bstr.specs.Owned.{joined}
-use Rattle.gixobj_hash.specs.Bytes.{newline, space}
-use Rattle.gixobj_text.specs.BodyLines.{carriage_return}
+use Rattle.gixobj_hash.specs.Bytes.{carriage_return, newline, space}
 use Rattle.gixobj_hash.specs.ByteStrings.{is_filled, trimmed}
 use Rattle.bstr.specs.Trim.{trim_end_by}
 

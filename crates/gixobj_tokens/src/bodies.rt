@@ -7,7 +7,7 @@ ghost use Rattle.gixobj_tokens.specs.TagBodies.{IsBody, IsMalformedBody, IsParte
 
 use bstr::BStr;
 use gixobj_fields::parse::after_newline;
-use gixobj_text::signature;
+use gixobj_formats::signature;
 
 /// Decodes a body to its message and its signature.
 ///

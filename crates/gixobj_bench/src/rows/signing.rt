@@ -6,10 +6,10 @@ use bstr::BString;
 use gixobj_base::Kind;
 use gixobj_base::hash::Kind::Sha1;
 use gixobj_codec::{CommitRefIter, TagRefIter};
+use gixobj_formats::signature::Format;
 use gixobj_signature::signature::verify::{
     Outcome, TrustLevel, parse_gpg_output, parse_ssh_output,
 };
-use gixobj_text::signature::Format;
 use std::alloc::Global;
 
 /// Finds the signature of a commit or of a tag, and the data that it signs.

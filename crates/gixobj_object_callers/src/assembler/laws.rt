@@ -1,6 +1,7 @@
 //! Laws of messages that are assembled. The contract of each function is a law.
 ghost use Rattle.std.specs.Prelude.{◌≡◌, ◌≢◌, ℕ, All, List, Some, [], length};
-ghost use Rattle.gix_object.specs.BodyLines.{carriage_return, without_last_byte};
+ghost use Rattle.gix_object.specs.BodyLines.{without_last_byte};
+ghost use Rattle.gix_object.specs.Bytes.{carriage_return};
 ghost use Rattle.gix_object.specs.MessageTrailers.{HasTrailers};
 ghost use Rattle.gix_object.specs.Titles.{SplitsTitle};
 ghost use Rattle.gix_object.specs.TrailerBlocks.{IsTrailerBlockStart};

@@ -11,9 +11,9 @@ mod calls;
 use crate::signature::{RunError, Runner};
 use bstr::{BString, ByteSlice};
 use calls::{gpg_call_of, ssh_call_of};
+use gixobj_formats::signature::Format;
 use gixobj_hash::{OutOfMemory, decode};
 use gixobj_streams::encode;
-use gixobj_text::signature::Format;
 use std::alloc::Global;
 
 /// How [`sign_payload`] signs (git-config, `gpg.format`, `gpg.program`, `user.signingKey`).

@@ -5,7 +5,7 @@ use Rattle.gix_object.specs.Files.{Upserted}
 use Rattle.gix_object.specs.Mode.{mode_of_kind}
 use Rattle.gix_object.specs.Openings.{AreTreesOf}
 use Rattle.gix_object.specs.State.{EditorFiles, State}
-use Rattle.gix_object.specs.mode.entry_kind.EntryKind.TheVariants.{Blob}
+use Rattle.gix_object.specs.entries.entry_kind.EntryKind.TheVariants.{Blob}
 use Rattle.gixobj_files.proofs.EditedFiles.{removed_congruent, same_files_trans}
 use Rattle.gix_object_tests.proofs.editor.edited_and_written.Goals as goal
 

@@ -4,7 +4,7 @@ ghost use Rattle.std.specs.Option.{option_map};
 ghost use Rattle.bstr.specs.Owned.{bstring_bytes};
 ghost use Rattle.gixobj_signature.specs.Calls.{call_view, output_view, word_view};
 ghost use Rattle.gixobj_report.specs.Outcomes.{outcome_view};
-ghost use Rattle.gixobj_text.specs.declared.signature.Format.TheVariants as format;
+ghost use Rattle.gixobj_formats.specs.declared.signature.Format.TheVariants as format;
 ghost use Rattle.gixobj_signature.specs.SignedBytes.{signed_bytes};
 ghost use Rattle.gixobj_signature.specs.Verifiers.{by_open_pgp, by_x509, program_of};
 ghost use Rattle.gixobj_signature.specs.VerifyingCalls.{open_pgp_call, open_pgp_arguments, full_call, x509_call, x509_arguments};
@@ -16,9 +16,9 @@ use crate::signature::arguments::Piece::{File, Text};
 use crate::signature::arguments::{arguments_with, environment_of};
 use crate::signature::{Call, Output, Runner, SignedData, Word};
 use bstr::{BString, ByteSlice};
+use gixobj_formats::signature::Format;
 use gixobj_hash::OutOfMemory;
 use gixobj_report::report::{Outcome, evaluate, parse_gpg_output};
-use gixobj_text::signature::Format;
 use std::alloc::Global;
 
 /// Verifies with an OpenPGP program, and rejects a signature of another format.

@@ -1,0 +1,3 @@
+pub mod MarkerPlaces
+mod MarkersFound
+mod Prefixes
