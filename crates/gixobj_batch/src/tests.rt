@@ -1,7 +1,6 @@
 //! Commands on recorded histories, and on damaged input.
 
-use crate::arguments::{Command, command_of};
-use crate::fault::Fault;
+use crate::arguments::Command;
 use crate::recorded::*;
 use crate::report::report_of;
 use gix_object::hash::ObjectId;

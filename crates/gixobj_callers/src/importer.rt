@@ -13,7 +13,7 @@ ghost use Rattle.gix_object.specs.Tables.{AgreesWithPairs};
 ghost use Rattle.gixobj_callers.specs.Imports.{Decides, FailsImport, HasImportCauseIn, HasWriteReply, edits_and_write, import_steps, is_done};
 ghost use Rattle.gix_object.specs.Stores.{store_model};
 
-use gix_object::hash::{Kind, ObjectId};
+use gix_object::hash::ObjectId;
 use gix_object::laws::store_has_tree_map;
 use gix_object::tree::editor::{
     Command, Edit, EditReply, Editor, Error, Reply, WriteError, Written, run,

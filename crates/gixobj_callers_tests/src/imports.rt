@@ -4,7 +4,7 @@ use crate::samples::{FIRST, SECOND, is_root};
 use gix_object::hash::Kind;
 use gix_object::tree::editor::{Editor, Error, WriteError, Written};
 use gix_object::{Memory, Tree, encode};
-use gix_object_tests::samples::{Row, edits_of, id};
+use gix_object_tests::samples::{Row, edits_of};
 use gixobj_callers::importer::{ImportError, import_files};
 use std::alloc::Global;
 

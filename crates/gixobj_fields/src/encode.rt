@@ -14,7 +14,7 @@ use gixobj_hash::hash::ObjectId;
 use gixobj_hash::split::{has_byte, split_at_byte};
 pub use gixobj_streams::encode::{Error, RefNameFault};
 use gixobj_streams::streams::Sink;
-use std::alloc::{AllocError, Global};
+use std::alloc::Global;
 use std::io;
 
 /// Appends a single-line field: the name, a space, the value and a newline (gitdatamodel, "commits").
