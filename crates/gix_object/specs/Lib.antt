@@ -33,6 +33,9 @@ pub use Rattle.gixobj_editor.specs.RunTables
 pub use Rattle.gixobj_editor.specs.Upserts
 pub use Rattle.gixobj_editor.specs.Writes
 pub use Rattle.gixobj_editor.specs.declared as editor
+pub use Rattle.gixobj_encode.specs.FieldWriting
+pub use Rattle.gixobj_encode.specs.StreamHash
+pub use Rattle.gixobj_encode.specs.declared as fields
 pub use Rattle.gixobj_entries.specs.Entries
 pub use Rattle.gixobj_entries.specs.EntryOrder
 pub use Rattle.gixobj_entries.specs.EntryViews
@@ -43,12 +46,8 @@ pub use Rattle.gixobj_entries.specs.TreeDecoding
 pub use Rattle.gixobj_entries.specs.declared as entries
 pub use Rattle.gixobj_error.specs.Writes as ToolErrors
 pub use Rattle.gixobj_error.specs.declared as error
-pub use Rattle.gixobj_fields.specs.FieldWriting
-pub use Rattle.gixobj_fields.specs.HeaderFormat
 pub use Rattle.gixobj_fields.specs.HeaderReading
 pub use Rattle.gixobj_fields.specs.Iterators as FieldReaders
-pub use Rattle.gixobj_fields.specs.StreamHash
-pub use Rattle.gixobj_fields.specs.declared as fields
 pub use Rattle.gixobj_files.specs.Bases
 pub use Rattle.gixobj_files.specs.Editing
 pub use Rattle.gixobj_files.specs.Edits
@@ -74,6 +73,7 @@ pub use Rattle.gixobj_hash.specs.Decode
 pub use Rattle.gixobj_hash.specs.Encode
 pub use Rattle.gixobj_hash.specs.FieldFormat
 pub use Rattle.gixobj_hash.specs.Hash
+pub use Rattle.gixobj_hash.specs.HeaderFormat
 pub use Rattle.gixobj_hash.specs.Kind
 pub use Rattle.gixobj_hash.specs.Optional
 pub use Rattle.gixobj_hash.specs.Runs

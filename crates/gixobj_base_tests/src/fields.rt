@@ -5,7 +5,7 @@ use crate::helpers::{holds, string_of};
 use gixobj_actor::actor::Signature;
 use gixobj_actor::date::Time;
 use gixobj_actor::encode::{size_with_signature, trusted_header_signature};
-use gixobj_fields::encode::{
+use gixobj_encode::encode::{
     Error, header_field, header_field_multi_line, size_plus_field, size_plus_id, size_with_hex,
     size_with_multi_line, trusted_header_field, trusted_header_hex, trusted_header_id,
 };

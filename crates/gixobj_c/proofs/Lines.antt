@@ -8,7 +8,7 @@ use Rattle.gixobj_c.proofs.Pieces.{piece_of_tail, rest_of_tail}
 use Rattle.gixobj_c.specs.Commits.{BeginsWithLineAt, IsTokenOfLine}
 use Rattle.gixobj_c.specs.Spans.{HasPieceBefore}
 use Rattle.gixobj_c.specs.declared.commits.CommitToken.{CommitToken}
-use Rattle.gixobj_fields.specs.HeaderFormat.{BeginsWithField, BeginsWithHeader, Header, encode_continuation}
+use Rattle.gixobj_hash.specs.HeaderFormat.{BeginsWithField, BeginsWithHeader, Header, encode_continuation}
 use Rattle.gixobj_hash.specs.FieldFormat.{encode_field, encode_line}
 use Rattle.gixobj_hash.specs.declared.hash.kind.Kind.{Kind}
 use Rattle.gixobj_line.specs.Lines.{BeginsWithLine, LineView, author_comes, author_line, committer_comes, committer_line, encoding_comes, encoding_line, first_header_comes, first_message_comes, header_comes, header_line, line_view, message_comes, message_line, parent_comes, parent_line, tree_comes, tree_line}

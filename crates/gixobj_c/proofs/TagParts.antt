@@ -7,7 +7,7 @@ use Rattle.gixobj_c.proofs.Pieces.{is_span_of_start, piece_of_tail, rest_of_tail
 use Rattle.gixobj_c.specs.Spans.{HasPieceBefore}
 use Rattle.gixobj_c.specs.Tags.{BeginsWithTokenAt, HasBodyParts, IsFieldSpan}
 use Rattle.gixobj_c.specs.declared.spans.Span.{Span}
-use Rattle.gixobj_fields.specs.HeaderFormat.{BeginsWithField}
+use Rattle.gixobj_hash.specs.HeaderFormat.{BeginsWithField}
 use Rattle.gixobj_hash.specs.FieldFormat.{encode_field}
 use Rattle.gixobj_hash.specs.Kind.{kind_name}
 use Rattle.gixobj_hash.specs.declared.hash.kind.Kind.{Kind}

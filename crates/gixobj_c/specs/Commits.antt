@@ -5,7 +5,7 @@ use Rattle.gixobj_calls.specs.Codes.{at_end, bad_offset, done, malformed, out_of
 use Rattle.gixobj_c.specs.Spans.{IsSpanOf}
 use Rattle.gixobj_c.specs.declared.commits.CommitToken.{CommitToken}
 use Rattle.gixobj_c.specs.declared.commits.Cursor.{Cursor}
-use Rattle.gixobj_fields.specs.HeaderFormat.{encode_continuation, value_of_lines}
+use Rattle.gixobj_hash.specs.HeaderFormat.{encode_continuation, value_of_lines}
 use Rattle.gixobj_hash.specs.FieldFormat.{encode_line}
 use Rattle.gixobj_hash.specs.Runs.{HasNoPiece}
 use Rattle.gixobj_hash.specs.Bytes.{newline}

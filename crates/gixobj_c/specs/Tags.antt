@@ -5,7 +5,7 @@ use Rattle.gixobj_c.specs.Spans.{HasPieceBefore, IsSpanOf}
 use Rattle.gixobj_c.specs.declared.commits.Cursor.{Cursor}
 use Rattle.gixobj_c.specs.declared.spans.Span.{Span}
 use Rattle.gixobj_c.specs.declared.tags.TagToken.{TagToken}
-use Rattle.gixobj_fields.specs.HeaderFormat.{BeginsWithField}
+use Rattle.gixobj_hash.specs.HeaderFormat.{BeginsWithField}
 use Rattle.gixobj_hash.specs.Runs.{HasNoPiece}
 use Rattle.gixobj_hash.specs.declared.hash.kind.Kind.{Kind}
 use Rattle.gixobj_tokens.specs.TagTokens.{BeginsWithTagToken, TagTokenView, body_token, kind_token, name_token, no_tagger_token, tagger_token, target_token}

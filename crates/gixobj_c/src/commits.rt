@@ -4,7 +4,7 @@ ghost use Rattle.bstr.specs.BStr.{bstr_bytes};
 ghost use Rattle.gixobj_calls.specs.Codes.{hash_of_code as hash_of};
 ghost use Rattle.gixobj_c.specs.Commits.{BeginsWithLineAt, IsCommitTokenCall, IsTokenOfLine, state_of_code as state_of};
 ghost use Rattle.gixobj_c.specs.Spans.{HasPieceBefore, IsSpanOf};
-ghost use Rattle.gixobj_fields.specs.HeaderFormat.{BeginsWithHeader};
+ghost use Rattle.gixobj_hash.specs.HeaderFormat.{BeginsWithHeader};
 ghost use Rattle.gixobj_fields.specs.HeaderReading.{header_of};
 ghost use Rattle.gixobj_line.specs.Lines.{header_line, line_view};
 

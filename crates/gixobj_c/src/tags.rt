@@ -3,7 +3,7 @@ ghost use Rattle.std.specs.Prelude.{◌≡◌, ℕ, List, Some, drop};
 ghost use Rattle.bstr.specs.BStr.{bstr_bytes};
 ghost use Rattle.gixobj_calls.specs.Codes.{hash_of_code as hash_of};
 ghost use Rattle.gixobj_c.specs.Tags.{BeginsWithTokenAt, HasBodyParts, IsFieldSpan, IsTagTokenCall, IsTokenOfBody, IsTokenOfTag, tag_state_of_code as state_of};
-ghost use Rattle.gixobj_fields.specs.HeaderFormat.{BeginsWithField};
+ghost use Rattle.gixobj_hash.specs.HeaderFormat.{BeginsWithField};
 ghost use Rattle.gixobj_hash.specs.Optional.{bytes_if_some};
 ghost use Rattle.gixobj_tokens.specs.TagTokens.{tag_token_view};
 

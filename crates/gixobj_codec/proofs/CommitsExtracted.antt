@@ -13,9 +13,9 @@ use Rattle.std.proofs.lemmas.List.Elements.{All-append, All-cons, All-head, All-
 use Rattle.gixobj_commit.specs.CommitWriting.{encode_commit}
 use Rattle.gixobj_tokens.specs.CommitSignatures.{signature_field, HasCommitSignature}
 use Rattle.gixobj_fields.proofs.HeaderFields.{header_unique}
-use Rattle.gixobj_fields.proofs.HeadersRoundTrip.{header_round_trips}
-use Rattle.gixobj_fields.specs.FieldWriting.{encode_header, value_lines}
-use Rattle.gixobj_fields.specs.HeaderFormat.{EndsHeader, BeginsWithField, BeginsWithHeader, Header, IsHeaderName, DecodesToHeader, encode_continuation, value_of_lines}
+use Rattle.gixobj_encode.proofs.HeadersRoundTrip.{header_round_trips}
+use Rattle.gixobj_encode.specs.FieldWriting.{encode_header, value_lines}
+use Rattle.gixobj_hash.specs.HeaderFormat.{EndsHeader, BeginsWithField, BeginsWithHeader, Header, IsHeaderName, DecodesToHeader, encode_continuation, value_of_lines}
 use Rattle.gixobj_hash.specs.FieldFormat.{encode_field, encode_line}
 use Rattle.gixobj_hash.specs.Runs.{BeginsWithPieces}
 use Rattle.gixobj_hash.specs.declared.hash.kind.Kind.{Kind}

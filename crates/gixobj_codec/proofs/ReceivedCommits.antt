@@ -9,10 +9,10 @@ use Rattle.std.specs.Prelude.{if◌then◌else◌, map}
 use Rattle.gixobj_commit.specs.CommitSigning.{is_header_named, payload_of_commit, with_signature}
 use Rattle.gixobj_commit.specs.CommitWriting.{encode_commit}
 use Rattle.gixobj_tokens.specs.CommitSignatures.{signature_field, HasCommitSignature, HasNoSignature}
-use Rattle.gixobj_fields.proofs.HeadersRoundTrip.{header_round_trips}
+use Rattle.gixobj_encode.proofs.HeadersRoundTrip.{header_round_trips}
 use Rattle.gixobj_hash.proofs.Runs.{begins_with_pieces_snoc}
-use Rattle.gixobj_fields.specs.FieldWriting.{encode_header, value_lines}
-use Rattle.gixobj_fields.specs.HeaderFormat.{BeginsWithHeader, Header, DecodesToHeader, value_of_lines}
+use Rattle.gixobj_encode.specs.FieldWriting.{encode_header, value_lines}
+use Rattle.gixobj_hash.specs.HeaderFormat.{BeginsWithHeader, Header, DecodesToHeader, value_of_lines}
 use Rattle.gixobj_hash.specs.Runs.{BeginsWithPieces, Yields, complete, yields_end, yields_piece}
 use Rattle.gixobj_hash.specs.declared.hash.kind.Kind.{Kind}
 use Rattle.gixobj_line.proofs.EntireCommits.{reaches_end, reaches_more}

@@ -3,7 +3,7 @@
 use Rattle.std.proofs.Common.{◌≡◌, ◌≢◌, ◌≤◌, ◌∙◌, ℕ, List, [], ◌∷◌, ◌++◌, Option, Some, None, append_assoc, ap, arith, codes, length, refl, subst, sym}
 use Rattle.std.proofs.lemmas.List.{append_cancel_right}
 use Rattle.gixobj_fields.proofs.HeaderFields.{field_unique, first_bytes_eq}
-use Rattle.gixobj_fields.specs.HeaderFormat.{BeginsWithField}
+use Rattle.gixobj_hash.specs.HeaderFormat.{BeginsWithField}
 use Rattle.gixobj_hash.specs.FieldFormat.{encode_field}
 use Rattle.gixobj_hash.proofs.Headers.{kind_keyword_injective}
 use Rattle.gixobj_hash.specs.Kind.{kind_name}

@@ -7,7 +7,7 @@ use Rattle.gixobj_actor.specs.Actor.{NamesActor}
 use Rattle.gixobj_tokens.specs.CommitSignatures.{signature_field}
 use Rattle.gixobj_fields.proofs.HeaderFields.{header_unique, hex_digits_newline_free}
 use Rattle.gixobj_hash.proofs.Runs.{yields_after_pieces}
-use Rattle.gixobj_fields.specs.HeaderFormat.{BeginsWithHeader, Header}
+use Rattle.gixobj_hash.specs.HeaderFormat.{BeginsWithHeader, Header}
 use Rattle.gixobj_hash.specs.FieldFormat.{encode_field}
 use Rattle.gixobj_hash.specs.Runs.{BeginsWithPieces, complete}
 use Rattle.gixobj_hash.specs.ByteStrings.{IsByteFree}

@@ -5,8 +5,8 @@ use Rattle.std.proofs.lemmas.List.Elements.{All-head, All-tail}
 use Rattle.gixobj_commit.specs.CommitWriting.{encode_commit}
 use Rattle.gixobj_tokens.specs.CommitSignatures.{signature_field, HasNoSignature, IsCommitSignatureError}
 use Rattle.gixobj_fields.proofs.HeaderFields.{header_unique}
-use Rattle.gixobj_fields.specs.FieldWriting.{encode_header}
-use Rattle.gixobj_fields.specs.HeaderFormat.{EndsHeader, BeginsWithHeader, BeginsWithNoHeader, Header, DecodesToHeader}
+use Rattle.gixobj_encode.specs.FieldWriting.{encode_header}
+use Rattle.gixobj_hash.specs.HeaderFormat.{EndsHeader, BeginsWithHeader, BeginsWithNoHeader, Header, DecodesToHeader}
 use Rattle.gixobj_hash.specs.Runs.{Yields, broken, complete, yields_end, yields_error, yields_piece}
 use Rattle.gixobj_hash.specs.declared.decode.Error.TheVariants.{Malformed}
 use Rattle.gixobj_hash.specs.declared.hash.kind.Kind.{Kind}

@@ -17,13 +17,12 @@ pub use Rattle.gixobj_commit.specs.RemainingHeaders
 pub use Rattle.gixobj_commit.specs.RemainingParents
 pub use Rattle.gixobj_commit.specs.Rewriting
 pub use Rattle.gixobj_commit.specs.declared as commit
+pub use Rattle.gixobj_encode.specs.FieldWriting
+pub use Rattle.gixobj_encode.specs.declared as fields
 pub use Rattle.gixobj_entries.specs.EntryViews
 pub use Rattle.gixobj_entries.specs.TreeDecoding
 pub use Rattle.gixobj_entries.specs.declared as entries
-pub use Rattle.gixobj_fields.specs.FieldWriting
-pub use Rattle.gixobj_fields.specs.HeaderFormat
 pub use Rattle.gixobj_fields.specs.HeaderReading
-pub use Rattle.gixobj_fields.specs.declared as fields
 pub use Rattle.gixobj_formats.specs.Markers
 pub use Rattle.gixobj_formats.specs.declared as formats
 pub use Rattle.gixobj_hash.specs.ByteStrings
@@ -32,6 +31,7 @@ pub use Rattle.gixobj_hash.specs.Decode
 pub use Rattle.gixobj_hash.specs.Encode
 pub use Rattle.gixobj_hash.specs.FieldFormat
 pub use Rattle.gixobj_hash.specs.Hash
+pub use Rattle.gixobj_hash.specs.HeaderFormat
 pub use Rattle.gixobj_hash.specs.Kind
 pub use Rattle.gixobj_hash.specs.Optional
 pub use Rattle.gixobj_hash.specs.Runs

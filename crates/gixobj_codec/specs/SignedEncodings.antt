@@ -1,7 +1,7 @@
 -- The payloads that a signer got, found in the encodings of signed commits and tags (gitformat-signature).
 use Rattle.std.specs.Prelude.{◌≡◌, ℕ, List}
-use Rattle.gixobj_fields.specs.FieldWriting.{value_lines}
-use Rattle.gixobj_fields.specs.HeaderFormat.{value_of_lines}
+use Rattle.gixobj_encode.specs.FieldWriting.{value_lines}
+use Rattle.gixobj_hash.specs.HeaderFormat.{value_of_lines}
 use Rattle.gixobj_hash.specs.declared.hash.kind.Kind.{Kind}
 use Rattle.gixobj_signature.specs.Calls.{Answer, CallView}
 use Rattle.gixobj_signature.specs.Plans.{CarriesOut}

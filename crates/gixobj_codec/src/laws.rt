@@ -10,7 +10,7 @@ pub use gixobj_commit::laws::{
     commit_decodes_uniquely, commit_reencodes_identically, owned_commit_has_same_parts,
     owned_header_search_complete, owned_mergetag_search_complete,
 };
-pub use gixobj_fields::laws::header_round_trips;
+pub use gixobj_encode::laws::header_round_trips;
 pub use gixobj_hash::laws::hex_decodes_uniquely;
 pub use gixobj_ref_iter::laws::{
     consumed_tag_tokens_are_prefix, readers, tag_part_search_complete, tag_readers_agree,

@@ -24,7 +24,7 @@ use Rattle.gixobj_line.specs.Commit.{before_encoding, encode_encoding, encode_id
 use Rattle.gixobj_commit.specs.CommitViews.{commit_lines, owned_commit_lines}
 use Rattle.gixobj_hash.specs.Optional.{bytes_if_some, owned_bytes_if_some}
 use Rattle.gixobj_commit.specs.CommitWriting.{IsMessageEncodingError, IsCommitLinesError, IsOwnedCommitError, encode_commit, hex_parent, in_lower_case, IsEncodingLineError}
-use Rattle.gixobj_fields.specs.FieldWriting.{encode_header}
+use Rattle.gixobj_encode.specs.FieldWriting.{encode_header}
 use Rattle.gixobj_commit.specs.declared.commit.Commit.{Commit}
 use Rattle.gixobj_commit.specs.declared.commit.CommitRef.{CommitRef}
 

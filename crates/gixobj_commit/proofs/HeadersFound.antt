@@ -10,7 +10,7 @@ use Rattle.std.specs.List.{filter}
 use Rattle.std.specs.Str.{bytes_eq}
 use Rattle.bstr.specs.BStr.{bstr_bytes}
 use Rattle.bstr.specs.declared.bstr.BStr.{BStr}
-use Rattle.gixobj_fields.specs.HeaderFormat.{Header}
+use Rattle.gixobj_hash.specs.HeaderFormat.{Header}
 use Rattle.gixobj_commit.specs.ExtraHeaders.{FindsPosition, FindsValue, Gave, NextOfAll, HasFirstHeader, IsFirstPosition, IsFirstValue, HasNoHeaderNamed, header_at, pair_of, searched, searched_name, values_named}
 use Rattle.gixobj_commit.specs.declared.extra_headers.FindAll.{FindAll}
 

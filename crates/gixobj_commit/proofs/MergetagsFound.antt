@@ -9,7 +9,7 @@ use Rattle.gixobj_commit.proofs.HeadersFound.{none_to_come, one_came}
 use Rattle.gixobj_commit.specs.ExtraHeaders.{pair_of}
 use Rattle.gixobj_commit.specs.Mergetags.{NextMergetag, IsTagOf, IsTagOrNone, mergetag_kind, mergetag_values, remaining_mergetags, tag_if_ok}
 use Rattle.gixobj_commit.specs.declared.extra_headers.Mergetags.{Mergetags}
-use Rattle.gixobj_fields.specs.HeaderFormat.{Header}
+use Rattle.gixobj_hash.specs.HeaderFormat.{Header}
 use Rattle.gixobj_hash.specs.declared.decode.Error.{Error}
 use Rattle.gixobj_hash.specs.declared.hash.kind.Kind.{Kind}
 use Rattle.gixobj_tag.proofs.EntireTags.{tag_unique}

@@ -4,16 +4,16 @@ use Rattle.std.specs.List.{AllPass, flat_map}
 use Rattle.std.specs.Str.{str_to_ascii_lowercase}
 use Rattle.std.proofs.lemmas.List.Elements.{All-head, All-tail}
 use Rattle.gixobj_hash.specs.Hash.{is_lower_hex_digit}
-use Rattle.gixobj_fields.specs.HeaderFormat.{Header}
+use Rattle.gixobj_hash.specs.HeaderFormat.{Header}
 use Rattle.gixobj_hash.specs.FieldFormat.{encode_field}
 use Rattle.gixobj_streams.specs.Writing.{RejectedValue, RejectsNothing}
 use Rattle.gixobj_hash.specs.declared.hash.kind.Kind.{Kind}
-use Rattle.gixobj_fields.proofs.FieldWrites.{no_byte_of_byte_free}
-use Rattle.gixobj_fields.proofs.HeadersRoundTrip.{header_round_trips}
+use Rattle.gixobj_encode.proofs.FieldWrites.{no_byte_of_byte_free}
+use Rattle.gixobj_encode.proofs.HeadersRoundTrip.{header_round_trips}
 use Rattle.gixobj_hash.proofs.HexCase.{lower_case_of_lower_hex}
 use Rattle.gixobj_line.specs.Commit.{DecodesToHeaders, CommitLines, DecodesToCommit, IsEncoding, encode_encoding, encode_parent}
 use Rattle.gixobj_commit.specs.CommitWriting.{IsMessageEncodingError, IsCommitLinesError, encode_commit, in_lower_case}
-use Rattle.gixobj_fields.specs.FieldWriting.{encode_header}
+use Rattle.gixobj_encode.specs.FieldWriting.{encode_header}
 
 encode_decoded_headers : (bytes : List ℕ) (headers : List Header) → DecodesToHeaders bytes headers → flat_map encode_header headers ≡ bytes
 encode_decoded_headers bytes [] none = sym none

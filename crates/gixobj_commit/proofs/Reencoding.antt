@@ -8,7 +8,7 @@ use Rattle.bstr.specs.Owned.{bstring_bytes}
 use Rattle.gixobj_actor.proofs.OwnedActors.{encode_owned_actor_is_canonical, is_unwritable_of_error}
 use Rattle.gixobj_actor.specs.ActorWriting.{IsUnwritable}
 use Rattle.gixobj_hash.specs.Hash.{DecodesToId, encode_id_hex}
-use Rattle.gixobj_fields.specs.HeaderFormat.{Header}
+use Rattle.gixobj_hash.specs.HeaderFormat.{Header}
 use Rattle.gixobj_streams.specs.Streams.{SinkView}
 use Rattle.gixobj_streams.specs.Writing.{RejectedValue, IsWritingError, bad_name, empty_header, header_with_newline, illegal_actor, name_with_dash, name_with_zero_byte}
 use Rattle.gixobj_hash.specs.declared.decode.Error.TheVariants.{Malformed}

@@ -6,7 +6,7 @@ use Rattle.gixobj_commit.specs.CommitViews.{owned_commit_lines}
 use Rattle.gixobj_commit.specs.CommitWriting.{IsOwnedCommitError, encode_commit}
 use Rattle.gixobj_commit.specs.declared.commit.Commit.{Commit}
 use Rattle.gixobj_tokens.specs.CommitSignatures.{signature_field}
-use Rattle.gixobj_fields.specs.HeaderFormat.{Header}
+use Rattle.gixobj_hash.specs.HeaderFormat.{Header}
 use Rattle.gixobj_streams.specs.Writing.{IsEncodingError, RejectsNothing}
 use Rattle.gixobj_streams.specs.declared.encode.Error as encode
 use Rattle.gixobj_hash.specs.Hash.{id_kind}

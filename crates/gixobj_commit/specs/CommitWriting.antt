@@ -7,7 +7,7 @@ use Rattle.bstr.specs.declared.bstr.BStr.{BStr}
 use Rattle.gixobj_actor.specs.ActorWriting.{IsLegal}
 use Rattle.gixobj_hash.specs.Hash.{IsIdHex, encode_id_hex}
 use Rattle.gixobj_hash.specs.Hash.Hex.{decoded_id}
-use Rattle.gixobj_fields.specs.FieldWriting.{IsValueError, encode_header}
+use Rattle.gixobj_encode.specs.FieldWriting.{IsValueError, encode_header}
 use Rattle.gixobj_hash.specs.FieldFormat.{encode_field}
 use Rattle.gixobj_streams.specs.Writing.{RejectedValue, illegal_actor}
 use Rattle.gixobj_line.specs.Commit.{CommitLines, before_encoding, encode_encoding, encode_ids, encode_parent}

@@ -5,7 +5,7 @@ use Rattle.std.specs.List.{filter}
 use Rattle.std.specs.Str.{bytes_eq}
 use Rattle.bstr.specs.BStr.{bstr_bytes}
 use Rattle.bstr.specs.declared.bstr.BStr.{BStr}
-use Rattle.gixobj_fields.specs.HeaderFormat.{Header}
+use Rattle.gixobj_hash.specs.HeaderFormat.{Header}
 use Rattle.gixobj_commit.specs.declared.extra_headers.ExtraHeaders.{ExtraHeaders}
 use Rattle.gixobj_commit.specs.declared.extra_headers.FindAll.{FindAll}
 use Rattle.gixobj_hash.specs.declared.hash.kind.Kind.{Kind}

@@ -10,9 +10,9 @@ pub mod Rewriting
 pub use Rattle.gixobj_actor.specs.Actor
 pub use Rattle.gixobj_actor.specs.ActorWriting
 pub use Rattle.gixobj_actor.specs.Date
-pub use Rattle.gixobj_fields.specs.FieldWriting
+pub use Rattle.gixobj_encode.specs.FieldWriting
 pub use Rattle.gixobj_fields.specs.HeaderReading
-pub use Rattle.gixobj_fields.specs.HeaderFormat
+pub use Rattle.gixobj_hash.specs.HeaderFormat
 pub use Rattle.gixobj_hash.specs.FieldFormat
 pub use Rattle.gixobj_streams.specs.Streams
 pub use Rattle.gixobj_streams.specs.Writing

@@ -1,7 +1,7 @@
 -- The extra headers that an iterator has yet to yield.
 use Rattle.std.specs.Prelude.{List, map}
 use Rattle.gixobj_fields.specs.HeaderReading.{header_of, owned_header_of}
-use Rattle.gixobj_fields.specs.HeaderFormat.{Header}
+use Rattle.gixobj_hash.specs.HeaderFormat.{Header}
 use Rattle.gixobj_commit.specs.declared.extra_headers.BorrowedHeaders.{BorrowedHeaders}
 use Rattle.gixobj_commit.specs.declared.extra_headers.OwnedHeaders.{OwnedHeaders}
 

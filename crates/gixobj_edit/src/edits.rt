@@ -20,7 +20,7 @@ use gixobj_calls::buffers::{write_bytes, write_two};
 use gixobj_calls::codes::{DONE, NOT_FOUND, UNKNOWN_CODE, hash_of_code};
 use gixobj_editor::editor::Editor;
 use gixobj_editor::{Command, Edit, Reply, run};
-use gixobj_fields::encode;
+use gixobj_encode::encode;
 use gixobj_hash::hash::{Kind, ObjectId};
 use gixobj_keep::Memory;
 use gixobj_script::{ScriptError, parse_script};

@@ -7,7 +7,7 @@ use gixobj_calls::codes::{
     OUT_OF_MEMORY,
 };
 use gixobj_editor::editor::Error;
-use gixobj_fields::encode;
+use gixobj_encode::encode;
 use gixobj_hash::decode;
 use gixobj_hash::hash::ObjectId;
 use gixobj_keep::KeepError;

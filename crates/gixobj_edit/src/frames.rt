@@ -9,8 +9,8 @@ ghost use Rattle.gixobj_hash.specs.declared.kind.Kind.TheVariants as object;
 
 use crate::failure::{Failure, encode_failure};
 use gixobj_editor::{EditReply, Reply};
-use gixobj_fields::WriteTo;
-use gixobj_fields::encode::Error;
+use gixobj_encode::WriteTo;
+use gixobj_encode::encode::Error;
 use gixobj_hash::decode::loose_header;
 use gixobj_hash::hash::{self, ObjectId};
 use gixobj_hash::{Kind, encode};

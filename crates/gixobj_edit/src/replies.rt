@@ -5,7 +5,7 @@ ghost use Rattle.gixobj_edit.specs.Replies.{AreDone, IsFirstFailure, edit_reply_
 use crate::failure::{Failure, edit_failure, encode_failure, keep_failure};
 use gixobj_editor::editor::WriteError;
 use gixobj_editor::{EditReply, Reply};
-use gixobj_fields::encode;
+use gixobj_encode::encode;
 use gixobj_hash::hash::ObjectId;
 
 /// Returns the index of the first command that failed, with its failure, or `None` if all are done.

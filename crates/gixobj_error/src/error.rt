@@ -8,7 +8,7 @@ mod signatures;
 mod stores;
 
 use gixobj_editor::editor;
-use gixobj_fields::{encode, stream_hash};
+use gixobj_encode::{encode, stream_hash};
 use gixobj_find::find::{self, existing, existing_iter, existing_object};
 use gixobj_find::write;
 use gixobj_hash::{OutOfMemory, decode, hash, kind};

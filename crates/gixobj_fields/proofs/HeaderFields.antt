@@ -13,7 +13,7 @@ use Rattle.std.specs.List.{AllPass, flat_map}
 use Rattle.std.specs.Prelude.{true, false, MatchOption, Option, nat_eq, take, drop}
 use Rattle.hex.specs.Hex.{is_hex_digit}
 use Rattle.gixobj_hash.proofs.Splits.{no_split_of_byte_free, split_parts_unique}
-use Rattle.gixobj_fields.specs.HeaderFormat.{BeginsWithSeveralLines, EndsHeader, BeginsWithField, BeginsWithHeader, BeginsWithNoField, BeginsWithNoHeader, Header, IsHeaderName, encode_continuation, value_of_lines}
+use Rattle.gixobj_hash.specs.HeaderFormat.{BeginsWithSeveralLines, EndsHeader, BeginsWithField, BeginsWithHeader, BeginsWithNoField, BeginsWithNoHeader, Header, IsHeaderName, encode_continuation, value_of_lines}
 use Rattle.gixobj_hash.specs.FieldFormat.{encode_field, encode_line}
 use Rattle.gixobj_fields.specs.HeaderReading.{BeginsWithNoIdField, BeginsWithNoKindField, BeginsWithNoContinuations, IsUnfolded, IsHeaderFieldError}
 use Rattle.gixobj_hash.specs.ByteStrings.{IsByteFree, SplitsAt}

@@ -1,6 +1,2 @@
-pub mod FieldWrites
-mod FoldedSizes
 pub mod HeaderFields
-pub mod HeadersRoundTrip
 pub mod Readers
-mod StreamReads

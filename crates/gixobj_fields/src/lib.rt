@@ -1,12 +1,5 @@
-//! Header fields, decoded and encoded, the trait of objects that can be written, and ids of objects whose
-//! content is streamed.
+//! Header fields of commits and tags, decoded.
 #![tactic(auto)]
 
-pub mod encode;
 pub mod laws;
 pub mod parse;
-pub mod pieces;
-pub mod stream_hash;
-pub mod traits;
-
-pub use traits::WriteTo;

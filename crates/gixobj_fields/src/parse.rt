@@ -2,7 +2,7 @@
 ghost use Rattle.std.specs.Prelude.{◌≡◌, ◌≢◌, ◌++◌, ◌∷◌, [], ℕ, List, IfErr, IfOk, IfSome, IfNone, MatchBool, MatchOption, length, slice_index};
 ghost use Rattle.bstr.specs.BStr.{bstr_bytes};
 ghost use Rattle.gixobj_fields.specs.HeaderReading.{BorrowsOneLine, BeginsWithIdField, BeginsWithNoIdField, BeginsWithNoKindField, BeginsWithNoContinuations, IsUnfolded, IsHeaderFieldError, header_of};
-ghost use Rattle.gixobj_fields.specs.HeaderFormat.{EndsHeader, BeginsWithField, BeginsWithHeader, BeginsWithNoField, IsHeaderName, BeginsWithOtherName};
+ghost use Rattle.gixobj_hash.specs.HeaderFormat.{EndsHeader, BeginsWithField, BeginsWithHeader, BeginsWithNoField, IsHeaderName, BeginsWithOtherName};
 ghost use Rattle.gixobj_hash.specs.ByteStrings.{IsByteFree};
 ghost use Rattle.gixobj_hash.specs.declared.decode.Error.TheVariants.{Malformed};
 ghost use Rattle.gixobj_hash.specs.Kind.{kind_name};

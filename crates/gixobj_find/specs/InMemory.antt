@@ -1,7 +1,7 @@
 -- Results of writes to a store in memory that is in a cell (git-hash-object, `-w`).
 use Rattle.std.specs.Prelude.{◌≡◌, ℕ, Err, List, Ok, Option, Result, codes, ⊤}
 use Rattle.bstr.specs.Owned.{bstring_bytes}
-use Rattle.gixobj_fields.specs.StreamHash.{ReadsObject, IsStreamError, SkipsExactly}
+use Rattle.gixobj_encode.specs.StreamHash.{ReadsObject, IsStreamError, SkipsExactly}
 use Rattle.gixobj_hash.specs.declared.hash.kind.Kind.TheVariants.{Sha1}
 use Rattle.gixobj_hash.specs.declared.hash.object_id.ObjectId.{ObjectId}
 use Rattle.gixobj_hash.specs.declared.kind.Kind.{Kind}

@@ -2,7 +2,7 @@ pub mod Existing
 pub mod InMemory
 pub mod NeverWrites
 pub mod Writers
-pub use Rattle.gixobj_fields.specs.StreamHash
+pub use Rattle.gixobj_encode.specs.StreamHash
 pub use Rattle.gixobj_streams.specs.Writing
 pub use Rattle.gixobj_keep.specs.ExistingTrees
 pub use Rattle.gixobj_store.specs.Stores

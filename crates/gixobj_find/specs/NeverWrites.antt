@@ -1,7 +1,7 @@
 -- Results of writes to the store that keeps nothing (git-hash-object, without `-w`).
 use Rattle.std.specs.Prelude.{◌≡◌, ℕ, Err, List, Ok, Option, Result, ⊤}
-use Rattle.gixobj_fields.specs.StreamHash.{ReadsObject, IsStreamError, SkipsExactly}
-use Rattle.gixobj_fields.specs.declared.stream_hash.Error as stream
+use Rattle.gixobj_encode.specs.StreamHash.{ReadsObject, IsStreamError, SkipsExactly}
+use Rattle.gixobj_encode.specs.declared.stream_hash.Error as stream
 use Rattle.gixobj_hash.specs.declared.hash.kind.Kind.TheVariants.{Sha1}
 use Rattle.gixobj_hash.specs.declared.hash.object_id.ObjectId.{ObjectId}
 use Rattle.gixobj_hash.specs.declared.kind.Kind.{Kind}

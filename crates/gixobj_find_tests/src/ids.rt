@@ -1,7 +1,7 @@
 //! Ids of objects of each kind.
 
 use crate::samples::{KINDS, bytes_of, id_by_git};
-use gixobj_fields::WriteTo;
+use gixobj_encode::WriteTo;
 use gixobj_hash::Kind;
 use gixobj_hash::hash::{Kind as HashKind, ObjectId};
 use gixobj_object::ObjectRef;

@@ -2,7 +2,7 @@
 
 use crate::samples::{HELLO, id, is_id};
 use crate::written::{CALLS, returns_id};
-use gixobj_fields::stream_hash;
+use gixobj_encode::stream_hash;
 use gixobj_find::{Write, write};
 use gixobj_hash::Kind;
 use gixobj_hash::hash::Kind as HashKind;

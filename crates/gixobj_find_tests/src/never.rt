@@ -4,7 +4,7 @@ use crate::samples::{HELLO, id, id_of_bytes, is_id};
 use crate::stores::has_none;
 use crate::written::{CALLS, returns_id};
 use gixobj_base_tests::limited::Stepping;
-use gixobj_fields::stream_hash;
+use gixobj_encode::stream_hash;
 use gixobj_find::find::Never;
 use gixobj_find::{Write, write};
 use gixobj_hash::Kind;

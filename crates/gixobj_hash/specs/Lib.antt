@@ -4,6 +4,7 @@ pub mod Decode
 pub mod Encode
 pub mod FieldFormat
 pub mod Hash
+pub mod HeaderFormat
 pub mod Kind
 pub mod Optional
 pub mod Runs

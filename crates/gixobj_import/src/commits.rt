@@ -14,7 +14,7 @@ use gixobj_actor::actor::Signature;
 use gixobj_actor::laws::actor_round_trips;
 use gixobj_commit::Commit;
 use gixobj_editor::editor::Editor;
-use gixobj_fields::{WriteTo, encode};
+use gixobj_encode::{WriteTo, encode};
 use gixobj_hash::hash::{self, ObjectId};
 use gixobj_hash::laws::hex_round_trips;
 use gixobj_hash::{Kind, OutOfMemory, compute_hash};

@@ -22,7 +22,7 @@ use gixobj_directories::laws::store_has_tree_map;
 use gixobj_editor::Edit;
 use gixobj_editor::editor::{Editor, Error, WriteError, Written};
 use gixobj_editor::edits::push_reserved;
-use gixobj_fields::encode;
+use gixobj_encode::encode;
 use gixobj_hash::OutOfMemory;
 use gixobj_hash::hash::{self, ObjectId};
 pub use gixobj_keep::KeepCommit;

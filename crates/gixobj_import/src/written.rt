@@ -14,7 +14,7 @@ use crate::edits::do_edits;
 use crate::import::ImportError;
 use gixobj_editor::editor::{Editor, Written};
 use gixobj_editor::{Edit, EditReply};
-use gixobj_fields::encode;
+use gixobj_encode::encode;
 use gixobj_hash::hash::{self, ObjectId};
 use gixobj_hash::laws::hex_round_trips;
 use gixobj_keep::{Keep, keep_all};

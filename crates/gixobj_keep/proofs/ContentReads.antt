@@ -2,9 +2,9 @@
 use Rattle.std.proofs.Common.{◌≡◌, ◌+◌, ◌-◌, ◌≤◌, ◌++◌, ℕ, List, [], Option, arith, length, length-append}
 use Rattle.std.proofs.KnownBytes.{Consumes-nil, Consumes-trans}
 use Rattle.std.specs.Io.KnownBytes.{Consumes}
-use Rattle.gixobj_fields.specs.StreamHash.{IsStreamError, ReadsExactly, ReadsPrefix}
-use Rattle.gixobj_fields.specs.declared.stream_hash.Error.{Error}
-use Rattle.gixobj_fields.specs.declared.stream_hash.Error.TheVariants.{Io, UnexpectedEof}
+use Rattle.gixobj_encode.specs.StreamHash.{IsStreamError, ReadsExactly, ReadsPrefix}
+use Rattle.gixobj_encode.specs.declared.stream_hash.Error.{Error}
+use Rattle.gixobj_encode.specs.declared.stream_hash.Error.TheVariants.{Io, UnexpectedEof}
 use Rattle.gixobj_keep.specs.Memory.{IsContentError}
 use Rattle.gixobj_keep.specs.declared.write.Error.TheVariants.{Read}
 

@@ -3,7 +3,7 @@ use Rattle.std.specs.Prelude.{◌≡◌, ℕ, List, Option, codes, map, ⊤}
 use Rattle.std.specs.FinMap as finite
 use Rattle.bstr.specs.Owned.{bstring_bytes}
 use Rattle.gixobj_store.specs.Stores.{Objects, StoredObject}
-use Rattle.gixobj_fields.specs.StreamHash.{IsStreamError}
+use Rattle.gixobj_encode.specs.StreamHash.{IsStreamError}
 use Rattle.gixobj_streams.specs.Writing.{RejectedValue, IsEncodingError}
 use Rattle.gixobj_streams.specs.declared.encode.Error.{Error}
 use Rattle.gixobj_streams.specs.declared.encode.Error.TheVariants.{OutOfMemory, Writer}

@@ -14,7 +14,7 @@ mod writes;
 
 use crate::{Keep, KeepCommit, KeepError};
 use bstr::BString;
-use gixobj_fields::{WriteTo, encode};
+use gixobj_encode::{WriteTo, encode};
 use gixobj_hash::hash::{ObjectId, oid};
 use gixobj_hash::{Header, Kind, OutOfMemory, compute_hash, hash};
 use gixobj_store::{Data, Exists, Find, FindHeader, Store, find};

@@ -1,6 +1,6 @@
 //! The error of a write to an object store.
 use bstr::BString;
-use gixobj_fields::{encode, stream_hash};
+use gixobj_encode::{encode, stream_hash};
 use gixobj_hash::OutOfMemory;
 use std::alloc::{AllocError, AllocFailed};
 

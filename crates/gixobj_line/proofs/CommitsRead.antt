@@ -6,7 +6,7 @@ use Rattle.std.proofs.lemmas.List.Concat.{flat_map-append}
 use Rattle.std.proofs.lemmas.List.Elements.{All-nil, All-push}
 use Rattle.std.specs.List.{flat_map}
 use Rattle.std.specs.Prelude.{codes}
-use Rattle.gixobj_fields.specs.HeaderFormat.{BeginsWithField, Header, DecodesToHeader}
+use Rattle.gixobj_hash.specs.HeaderFormat.{BeginsWithField, Header, DecodesToHeader}
 use Rattle.gixobj_hash.specs.FieldFormat.{encode_field}
 use Rattle.gixobj_hash.specs.Runs.{BeginsWithPieces}
 use Rattle.gixobj_hash.specs.Hash.Hex.{IsIdHexOfKind}

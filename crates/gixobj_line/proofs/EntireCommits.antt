@@ -7,7 +7,7 @@ use Rattle.std.specs.List.{flat_map}
 use Rattle.std.specs.Prelude.{codes, map}
 use Rattle.gixobj_fields.proofs.HeaderFields.{is_id_hex_of_decoded}
 use Rattle.gixobj_hash.proofs.Runs.{yields_after_pieces, one_run, begins_with_pieces_snoc}
-use Rattle.gixobj_fields.specs.HeaderFormat.{BeginsWithSeveralLines, Header, DecodesToHeader, BeginsWithOtherName}
+use Rattle.gixobj_hash.specs.HeaderFormat.{BeginsWithSeveralLines, Header, DecodesToHeader, BeginsWithOtherName}
 use Rattle.gixobj_hash.specs.FieldFormat.{encode_field}
 use Rattle.gixobj_hash.specs.Runs.{HasNoPiece, BeginsWithPieces, Yields, complete, yields_end, yields_piece}
 use Rattle.gixobj_hash.specs.Hash.{IsIdHex}

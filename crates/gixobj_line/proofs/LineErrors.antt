@@ -4,7 +4,7 @@ use Rattle.std.specs.Prelude.{codes}
 use Rattle.gixobj_actor.specs.Actor.{IsActor, IsNoActor}
 use Rattle.gixobj_fields.proofs.HeaderFields.{first_bytes_eq, field_unique}
 use Rattle.gixobj_fields.specs.HeaderReading.{IsHeaderFieldError}
-use Rattle.gixobj_fields.specs.HeaderFormat.{BeginsWithField, BeginsWithNoField, BeginsWithNoHeader}
+use Rattle.gixobj_hash.specs.HeaderFormat.{BeginsWithField, BeginsWithNoField, BeginsWithNoHeader}
 use Rattle.gixobj_hash.specs.Runs.{HasNoPiece}
 use Rattle.gixobj_hash.specs.declared.decode.Error.{Error}
 use Rattle.gixobj_hash.specs.declared.decode.Error.TheVariants.{Malformed, OutOfMemory}

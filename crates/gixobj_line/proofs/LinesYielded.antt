@@ -4,7 +4,7 @@ use Rattle.std.proofs.lemmas.List.Elements.{All-head, All-tail}
 use Rattle.std.specs.List.{flat_map}
 use Rattle.std.specs.Prelude.{codes, map}
 use Rattle.gixobj_fields.proofs.HeaderFields.{hex_digits_newline_free}
-use Rattle.gixobj_fields.specs.HeaderFormat.{EndsHeader, BeginsWithField, BeginsWithHeader, Header, DecodesToHeader, encode_continuation}
+use Rattle.gixobj_hash.specs.HeaderFormat.{EndsHeader, BeginsWithField, BeginsWithHeader, Header, DecodesToHeader, encode_continuation}
 use Rattle.gixobj_hash.specs.FieldFormat.{encode_field}
 use Rattle.gixobj_hash.specs.Runs.{Yields, complete, yields_end, yields_piece}
 use Rattle.gixobj_hash.specs.Hash.Hex.{IsIdHexOfKind}

@@ -5,7 +5,7 @@ use Rattle.std.specs.List.{flat_map}
 use Rattle.std.specs.Prelude.{IfNone, None, Option, Some, codes}
 use Rattle.gixobj_fields.proofs.HeaderFields.{Unfolding, has_header_of_lines, has_header_of_one_line, no_lines_of_split, is_unfolded_at_end, unfolding_append, unfolding_first}
 use Rattle.gixobj_fields.specs.HeaderReading.{BeginsWithIdField, BeginsWithContinuations, BeginsWithNoIdField, BeginsWithNoContinuations}
-use Rattle.gixobj_fields.specs.HeaderFormat.{EndsHeader, BeginsWithField, BeginsWithHeader, Header, encode_continuation}
+use Rattle.gixobj_hash.specs.HeaderFormat.{EndsHeader, BeginsWithField, BeginsWithHeader, Header, encode_continuation}
 use Rattle.gixobj_hash.specs.FieldFormat.{encode_line}
 use Rattle.gixobj_hash.specs.Runs.{HasNoPiece}
 use Rattle.gixobj_hash.specs.ByteStrings.{IsByteFree, SplitsAt}

@@ -3,7 +3,7 @@ use Rattle.std.proofs.Common.{◌≡◌, ℕ, List, [], ◌∷◌, ◌++◌, Opt
 use Rattle.std.specs.Prelude.{codes}
 use Rattle.gixobj_actor.specs.Actor.{IsActorLine, IsMalformedActorLine}
 use Rattle.gixobj_fields.proofs.HeaderFields.{field_unique}
-use Rattle.gixobj_fields.specs.HeaderFormat.{BeginsWithField, BeginsWithNoField, BeginsWithOtherName}
+use Rattle.gixobj_hash.specs.HeaderFormat.{BeginsWithField, BeginsWithNoField, BeginsWithOtherName}
 use Rattle.gixobj_line.specs.TagLines.{BeginsWithNoTagName, BeginsWithMalformedTagger, BeginsWithTagger}
 
 -- ---- names

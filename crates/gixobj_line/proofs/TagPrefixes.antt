@@ -3,7 +3,7 @@ use Rattle.std.proofs.Common.{◌≡◌, ℕ, List, [], ◌∷◌, ◌++◌, Opt
 use Rattle.std.specs.Prelude.{Bool, MatchBool, codes, false, true}
 use Rattle.gixobj_fields.proofs.HeaderFields.{hex_digits_newline_free, first_bytes_eq, field_unique}
 use Rattle.gixobj_fields.specs.HeaderReading.{BeginsWithIdField, BeginsWithNoIdField, BeginsWithNoKindField}
-use Rattle.gixobj_fields.specs.HeaderFormat.{BeginsWithField, BeginsWithOtherName}
+use Rattle.gixobj_hash.specs.HeaderFormat.{BeginsWithField, BeginsWithOtherName}
 use Rattle.gixobj_hash.specs.FieldFormat.{encode_field}
 use Rattle.gixobj_hash.proofs.Splits.{byte_free_of_all_pass}
 use Rattle.gixobj_hash.specs.Kind.{kind_name}

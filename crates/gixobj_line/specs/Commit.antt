@@ -1,7 +1,7 @@
 -- The encoding of a commit, and its lines (gitdatamodel, "commits").
 use Rattle.std.specs.Prelude.{◌≡◌, ◌≢◌, ◌⊎◌, ℕ, List, [], ◌∷◌, ◌++◌, All, Option, Some, None, codes, map, ⊤}
 use Rattle.std.specs.List.{flat_map}
-use Rattle.gixobj_fields.specs.HeaderFormat.{Header, DecodesToHeader}
+use Rattle.gixobj_hash.specs.HeaderFormat.{Header, DecodesToHeader}
 use Rattle.gixobj_hash.specs.FieldFormat.{encode_field}
 use Rattle.gixobj_hash.specs.Hash.Hex.{IsIdHexOfKind}
 use Rattle.gixobj_hash.specs.declared.decode.Error.{Error}

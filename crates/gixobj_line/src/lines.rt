@@ -2,7 +2,7 @@
 ghost use Rattle.std.specs.Prelude.{◌≡◌, ◌≢◌, ◌∷◌, [], ℕ, List, IfErr, IfNone, IfOk, IfSome, MatchBool, MatchOption};
 ghost use Rattle.bstr.specs.BStr.{bstr_bytes};
 ghost use Rattle.gixobj_actor.specs.Actor.{IsActorOf, actor_view};
-ghost use Rattle.gixobj_fields.specs.HeaderFormat.{BeginsWithHeader, BeginsWithNoHeader, Header, IsHeaderName};
+ghost use Rattle.gixobj_hash.specs.HeaderFormat.{BeginsWithHeader, BeginsWithNoHeader, Header, IsHeaderName};
 ghost use Rattle.gixobj_fields.specs.HeaderReading.{BeginsWithContinuations, BeginsWithNoContinuations};
 ghost use Rattle.gixobj_hash.specs.Runs.{HasNoPiece};
 ghost use Rattle.gixobj_hash.specs.ByteStrings.{IsByteFree};

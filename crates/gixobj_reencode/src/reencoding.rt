@@ -10,7 +10,7 @@ use gixobj_calls::codes::{
     MALFORMED, NOT_ENCODABLE, OUT_OF_MEMORY, UNKNOWN_CODE, hash_of_code, kind_of_code,
 };
 use gixobj_commit::CommitRef;
-use gixobj_fields::{WriteTo, encode};
+use gixobj_encode::{WriteTo, encode};
 use gixobj_hash::decode::Error;
 use gixobj_hash::{Kind, hash};
 use gixobj_tag::TagRef;

@@ -7,7 +7,7 @@ use Rattle.std.specs.Prelude.{codes}
 use Rattle.gixobj_actor.proofs.ActorLines.{actor_view_unique}
 use Rattle.gixobj_actor.specs.Actor.{ActorView}
 use Rattle.gixobj_fields.proofs.HeaderFields.{has_field_of_encoded, is_id_hex_of_decoded}
-use Rattle.gixobj_fields.specs.HeaderFormat.{BeginsWithHeader, Header}
+use Rattle.gixobj_hash.specs.HeaderFormat.{BeginsWithHeader, Header}
 use Rattle.gixobj_hash.specs.Runs.{complete, yields_end, yields_piece}
 use Rattle.gixobj_hash.specs.Runs as runs
 use Rattle.gixobj_hash.proofs.HexIds.{decoded_id_unique, decoded_id_decodes}

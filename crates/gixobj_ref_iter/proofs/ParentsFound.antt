@@ -11,7 +11,7 @@ use Rattle.gixobj_hash.specs.declared.decode.Error.TheVariants.{Malformed, OutOf
 use Rattle.gixobj_hash.specs.declared.hash.kind.Kind.{Kind}
 use Rattle.gixobj_hash.specs.declared.hash.object_id.ObjectId.{ObjectId}
 use Rattle.gixobj_hash.proofs.Runs.{after_first, yields_after_pieces}
-use Rattle.gixobj_fields.specs.HeaderFormat.{Header}
+use Rattle.gixobj_hash.specs.HeaderFormat.{Header}
 use Rattle.gixobj_hash.specs.Runs.{Ending, HasNone, complete, yields_end, yields_error, yields_piece}
 use Rattle.gixobj_line.specs.Commit.{CommitLines, DecodesToCommit, encoding_lines, lines_of_commit}
 use Rattle.gixobj_line.specs.Lines.{BeginsWithLine, LineView, MayFold, author_comes, committer_comes, encoding_comes, first_header_comes, first_message_comes, header_comes, header_line, message_comes, message_line, parent_comes, parent_line, tree_comes}

@@ -5,7 +5,7 @@ use Rattle.std.specs.Prelude.{codes}
 use Rattle.gixobj_actor.specs.Actor.{ActorView, IsActorLineOf}
 use Rattle.gixobj_fields.proofs.HeaderFields.{is_id_hex_of_decoded}
 use Rattle.gixobj_fields.specs.HeaderReading.{BeginsWithIdField}
-use Rattle.gixobj_fields.specs.HeaderFormat.{BeginsWithField}
+use Rattle.gixobj_hash.specs.HeaderFormat.{BeginsWithField}
 use Rattle.gixobj_hash.specs.Runs.{complete, yields_end, yields_piece}
 use Rattle.gixobj_hash.proofs.HexIds.{decoded_id_decodes}
 use Rattle.gixobj_hash.specs.Hash.{DecodesToId}

@@ -7,7 +7,7 @@ use Rattle.gixobj_actor.proofs.ActorLines.{actor_view_unique}
 use Rattle.gixobj_actor.specs.Actor.{IsActorLineOf}
 use Rattle.gixobj_fields.proofs.HeaderFields.{has_field_of_encoded, field_unique}
 use Rattle.gixobj_fields.specs.HeaderReading.{BeginsWithIdField}
-use Rattle.gixobj_fields.specs.HeaderFormat.{BeginsWithField}
+use Rattle.gixobj_hash.specs.HeaderFormat.{BeginsWithField}
 use Rattle.gixobj_hash.specs.FieldFormat.{encode_field}
 use Rattle.gixobj_hash.proofs.Headers.{kind_keyword_injective}
 use Rattle.gixobj_hash.proofs.HexIds.{decoded_id_unique}

@@ -3,7 +3,7 @@ use Rattle.std.specs.Prelude.{ℕ, List, []}
 use Rattle.bstr.specs.BStr.{bstr_bytes}
 use Rattle.gixobj_actor.specs.Actor.{ActorView, IsActorOf, actor_view}
 use Rattle.gixobj_fields.specs.HeaderReading.{header_of}
-use Rattle.gixobj_fields.specs.HeaderFormat.{Header}
+use Rattle.gixobj_hash.specs.HeaderFormat.{Header}
 use Rattle.gixobj_hash.specs.Hash.{DecodesToId}
 use Rattle.gixobj_hash.specs.declared.hash.kind.Kind.{Kind}
 use Rattle.gixobj_hash.specs.declared.hash.object_id.ObjectId.{ObjectId}

@@ -4,7 +4,7 @@
 use crate::calls::{Maker, ScriptedAnswer, Step};
 use crate::scripted::Played;
 use crate::signing::name_of;
-use gixobj_fields::{WriteTo, encode};
+use gixobj_encode::{WriteTo, encode};
 use gixobj_formats::signature::Format;
 use gixobj_hash::decode;
 use gixobj_hash::hash::Kind;

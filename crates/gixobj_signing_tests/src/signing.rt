@@ -2,7 +2,7 @@
 
 use crate::calls::{Maker, PROGRAM, ScriptedAnswer, Step, WHY, name_with};
 use crate::objects::{Outcome, after_calls};
-use gixobj_fields::encode;
+use gixobj_encode::encode;
 use gixobj_formats::signature::Format::{self, OpenPgp, Ssh, X509};
 use gixobj_hash::decode;
 use gixobj_signature::signature::sign::{Error, Options, is_literal_ssh_key, sign_payload};

@@ -5,7 +5,7 @@ use Rattle.std.proofs.lemmas.Bool.{true≢false}
 use Rattle.std.specs.Prelude.{codes}
 use Rattle.gixobj_fields.proofs.HeaderFields.{hex_digits_newline_free, first_bytes_eq, field_unique}
 use Rattle.gixobj_fields.specs.HeaderReading.{BeginsWithIdField, BeginsWithNoIdField, BeginsWithNoKindField}
-use Rattle.gixobj_fields.specs.HeaderFormat.{BeginsWithField, BeginsWithOtherName}
+use Rattle.gixobj_hash.specs.HeaderFormat.{BeginsWithField, BeginsWithOtherName}
 use Rattle.gixobj_hash.specs.FieldFormat.{encode_field}
 use Rattle.gixobj_hash.proofs.Headers.{kind_keyword_injective}
 use Rattle.gixobj_hash.specs.Kind.{kind_name}

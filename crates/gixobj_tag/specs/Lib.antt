@@ -9,7 +9,7 @@ pub mod TagViews
 pub mod TagWriting
 pub use Rattle.gixobj_actor.specs.Actor
 pub use Rattle.gixobj_fields.specs.HeaderReading
-pub use Rattle.gixobj_fields.specs.HeaderFormat
+pub use Rattle.gixobj_hash.specs.HeaderFormat
 pub use Rattle.gixobj_hash.specs.FieldFormat
 pub use Rattle.gixobj_hash.specs.Runs
 pub use Rattle.gixobj_hash.specs.Hash

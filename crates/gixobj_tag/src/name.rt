@@ -7,7 +7,7 @@ mod faults;
 
 use bstr::BStr;
 use faults::first_fault;
-use gixobj_fields::encode::{self, RefNameFault};
+use gixobj_encode::encode::{self, RefNameFault};
 
 /// The error of [`validated_name`].
 #[derive(Clone, Copy, Debug, PartialEq, Eq, thiserror::Error)]

@@ -1,7 +1,7 @@
 -- The first extra header of a name in the encoding of a commit (gitdatamodel, "commits").
 use Rattle.std.specs.Prelude.{◌≡◌, ℕ, List, Option, Some, None, ◌++◌}
 use Rattle.std.specs.Cow.{cow_slice_items}
-use Rattle.gixobj_fields.specs.HeaderFormat.{Header}
+use Rattle.gixobj_hash.specs.HeaderFormat.{Header}
 use Rattle.gixobj_hash.specs.Runs as runs
 use Rattle.gixobj_hash.specs.Runs.{BeginsWithOtherPieces, broken, complete}
 use Rattle.gixobj_hash.specs.declared.decode.Error.{Error}

@@ -3,7 +3,7 @@ use Rattle.std.specs.Prelude.{◌≡◌, ◌≢◌, ℕ, List, [], Option, Some,
 use Rattle.bstr.specs.BStr.{bstr_bytes}
 use Rattle.gixobj_actor.specs.Actor.{ActorView, IsActorLineOf, actor_view}
 use Rattle.gixobj_fields.specs.HeaderReading.{BeginsWithIdField}
-use Rattle.gixobj_fields.specs.HeaderFormat.{BeginsWithField, BeginsWithOtherName}
+use Rattle.gixobj_hash.specs.HeaderFormat.{BeginsWithField, BeginsWithOtherName}
 use Rattle.gixobj_hash.specs.Hash.{DecodesToId}
 use Rattle.gixobj_hash.specs.Kind.{kind_name}
 use Rattle.gixobj_hash.specs.declared.hash.kind.Kind as hash

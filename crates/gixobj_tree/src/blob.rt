@@ -1,7 +1,7 @@
 //! Blobs, which are the contents of files.
 ghost use Rattle.std.specs.Prelude.{◌≡◌, IfOk};
 
-use gixobj_fields::{WriteTo, encode};
+use gixobj_encode::{WriteTo, encode};
 use gixobj_hash::{Kind, OutOfMemory};
 use gixobj_streams::streams::Sink;
 use std::alloc::Global;

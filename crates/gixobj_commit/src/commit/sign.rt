@@ -11,7 +11,7 @@ ghost use Rattle.gixobj_signature.specs.Signing.{sign_options_view, sign_plan, s
 
 use super::{Commit, CommitRef, signature_field_name};
 use bstr::BString;
-use gixobj_fields::{WriteTo, encode};
+use gixobj_encode::{WriteTo, encode};
 use gixobj_hash::OutOfMemory;
 use gixobj_signature::signature::Runner;
 use gixobj_signature::signature::sign::{Error, Options, sign_payload};

@@ -16,8 +16,8 @@ mod owned;
 
 use super::CommitRef;
 use bstr::{BStr, BString};
-use gixobj_fields::WriteTo;
-use gixobj_fields::encode::{
+use gixobj_encode::WriteTo;
+use gixobj_encode::encode::{
     Error, header_field, header_field_multi_line, size_plus_field, size_plus_id, size_with_hex,
     size_with_multi_line, trusted_header_field, trusted_header_hex, trusted_header_id,
 };
@@ -201,7 +201,7 @@ impl Field for ObjectId {
 /// An extra header, borrowed.
 impl Field for (BStr<'_>, CowSlice<'_, u8>) {
     ghost use Rattle.gixobj_fields.specs.HeaderReading.{header_of};
-    ghost use Rattle.gixobj_fields.specs.FieldWriting.{encode_header};
+    ghost use Rattle.gixobj_encode.specs.FieldWriting.{encode_header};
 
     ghost written = { λ header. encode_header (header_of header) };
 
@@ -217,7 +217,7 @@ impl Field for (BStr<'_>, CowSlice<'_, u8>) {
 /// An extra header, owned.
 impl Field for (BString, BString) {
     ghost use Rattle.gixobj_fields.specs.HeaderReading.{owned_header_of};
-    ghost use Rattle.gixobj_fields.specs.FieldWriting.{encode_header};
+    ghost use Rattle.gixobj_encode.specs.FieldWriting.{encode_header};
 
     ghost written = { λ header. encode_header (owned_header_of header) };
 

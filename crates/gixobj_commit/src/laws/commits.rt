@@ -16,8 +16,8 @@ ghost use Rattle.gixobj_commit.specs.Rewriting.{AreNormalizedPartsOfCommit, IsNo
 ghost use Rattle.gixobj_commit.specs.declared.commit.Commit.{Commit};
 
 use crate::CommitRef;
-use gixobj_fields::WriteTo;
-use gixobj_fields::encode::Error;
+use gixobj_encode::WriteTo;
+use gixobj_encode::encode::Error;
 use std::alloc::Global;
 
 /// A commit decodes uniquely: with ids of one kind, bytes decode to at most one commit.

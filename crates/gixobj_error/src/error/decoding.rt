@@ -3,7 +3,7 @@ ghost use Rattle.std.specs.Prelude.{◌≡◌};
 ghost use Rattle.gixobj_error.specs.declared.error.Error.TheVariants as tool;
 
 use super::Error;
-use gixobj_fields::{encode, stream_hash};
+use gixobj_encode::{encode, stream_hash};
 use gixobj_hash::{decode, hash, kind};
 use gixobj_object::LooseDecodeError;
 use gixobj_store::data;

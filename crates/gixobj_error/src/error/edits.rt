@@ -5,7 +5,7 @@ ghost use Rattle.gixobj_error.specs.Writes.{error_of_write};
 
 use super::Error;
 use gixobj_editor::editor::{self, WriteError};
-use gixobj_fields::encode;
+use gixobj_encode::encode;
 use gixobj_find::write;
 use gixobj_import::{ImportError, Stopped};
 

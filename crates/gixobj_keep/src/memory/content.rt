@@ -1,10 +1,10 @@
 //! Reads of the content of an object.
 ghost use Rattle.std.specs.Prelude.{◌≡◌, IfErr, IfOk};
-ghost use Rattle.gixobj_fields.specs.StreamHash.{ReadsExactly};
+ghost use Rattle.gixobj_encode.specs.StreamHash.{ReadsExactly};
 ghost use Rattle.gixobj_keep.specs.Memory.{IsContentError};
 
 use crate::write::Error;
-use gixobj_fields::pieces::{BUFFER_LEN, read_piece};
+use gixobj_encode::pieces::{BUFFER_LEN, read_piece};
 use gixobj_streams::streams::Source;
 use std::alloc::Global;
 

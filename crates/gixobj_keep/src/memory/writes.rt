@@ -1,7 +1,7 @@
 //! Writes of objects to a store in memory.
 ghost use Rattle.std.specs.Prelude.{◌≡◌, ℕ, List, IfErr, IfOk, OnErr, OnOk, ⊤};
 ghost use Rattle.std.specs.FinMap as map;
-ghost use Rattle.gixobj_fields.specs.StreamHash.{ReadsExactly};
+ghost use Rattle.gixobj_encode.specs.StreamHash.{ReadsExactly};
 ghost use Rattle.gixobj_streams.specs.Writing.{RejectsNothing};
 ghost use Rattle.gixobj_hash.specs.Hash.{id_kind, id_of};
 ghost use Rattle.gixobj_keep.specs.Memory.{IsContentError, IsMemoryWriteError, memory_objects};
@@ -10,7 +10,7 @@ ghost use Rattle.gixobj_keep.specs.declared.write.Error.TheVariants as write_err
 use super::content::read_content;
 use super::{Memory, Stored};
 use crate::write::Error;
-use gixobj_fields::WriteTo;
+use gixobj_encode::WriteTo;
 use gixobj_hash::hash::ObjectId;
 use gixobj_hash::{Kind, compute_hash, hash};
 use gixobj_streams::streams::FromRead;

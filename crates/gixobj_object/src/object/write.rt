@@ -1,8 +1,8 @@
 //! Encoding of owned objects.
 
 use super::Object;
-use gixobj_fields::WriteTo;
-use gixobj_fields::encode::Error;
+use gixobj_encode::WriteTo;
+use gixobj_encode::encode::Error;
 use gixobj_hash::Kind;
 use gixobj_streams::streams::Sink;
 use std::alloc::Global;

@@ -17,7 +17,7 @@ ghost use Rattle.gixobj_tree.specs.Rewriting.{RoundTrips};
 
 use gixobj_editor::Reply;
 use gixobj_editor::laws::{consistent_run_has_table, encodable_tree_decodes_to_itself};
-use gixobj_fields::encode;
+use gixobj_encode::encode;
 
 /// A run over a store in memory that is empty at first, with digests as ids, has a table that agrees with it.
 ///

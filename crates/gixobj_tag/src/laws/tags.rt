@@ -15,8 +15,8 @@ ghost use Rattle.gixobj_tag.specs.TagWriting.{IsTagLinesError, IsOwnedTagError, 
 ghost use Rattle.gixobj_tag.specs.declared.tag.Tag.{Tag};
 
 use crate::TagRef;
-use gixobj_fields::WriteTo;
-use gixobj_fields::encode::Error;
+use gixobj_encode::WriteTo;
+use gixobj_encode::encode::Error;
 use std::alloc::Global;
 
 /// A tag decodes uniquely: with ids of one kind, bytes decode to at most one tag.

@@ -5,7 +5,7 @@ ghost use Rattle.gixobj_tag.specs.NameRule.{HasFault, HasNoFault, IsFirstFault, 
 ghost use Rattle.gixobj_tag.specs.PlainNames.{IsDotted, IsPlainName, is_plain_byte as is_plain_byte_of, may_follow as may_follow_of};
 
 use bstr::ByteSlice;
-use gixobj_fields::encode::RefNameFault;
+use gixobj_encode::encode::RefNameFault;
 use gixobj_hash::split::has_byte;
 
 /// Returns the first fault of a name, in the order of [`RefNameFault`]. Most names are plain, and need no

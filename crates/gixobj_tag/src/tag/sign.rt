@@ -12,7 +12,7 @@ ghost use Rattle.gixobj_hash.specs.Bytes.{newline};
 
 use super::{Tag, TagRef};
 use bstr::BString;
-use gixobj_fields::{WriteTo, encode};
+use gixobj_encode::{WriteTo, encode};
 use gixobj_hash::OutOfMemory;
 use gixobj_signature::signature::Runner;
 use gixobj_signature::signature::sign::{Error, Options, sign_payload};

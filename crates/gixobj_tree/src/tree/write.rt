@@ -16,8 +16,8 @@ ghost use Rattle.gixobj_streams.specs.Writing.{AddsSize, IsWritingError, LacksRo
 use super::{Entry, EntryMode, EntryRef, Tree};
 use bstr::BString;
 use gixobj_entries::{encode_kind, encoded_len};
-use gixobj_fields::WriteTo;
-use gixobj_fields::encode::Error;
+use gixobj_encode::WriteTo;
+use gixobj_encode::encode::Error;
 use gixobj_hash::Kind;
 use gixobj_hash::hash::{self, ObjectId, oid};
 use gixobj_hash::split::has_byte;

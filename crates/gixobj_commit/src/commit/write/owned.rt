@@ -3,8 +3,8 @@
 use super::super::Commit;
 use super::{ids_size, size_with_rest, write_ids, write_rest};
 use gixobj_actor::encode::{size_with_signature, trusted_header_signature};
-use gixobj_fields::WriteTo;
-use gixobj_fields::encode::Error;
+use gixobj_encode::WriteTo;
+use gixobj_encode::encode::Error;
 use gixobj_hash::Kind;
 use gixobj_hash::optional::borrowed;
 use gixobj_streams::streams::Sink;

@@ -1,6 +1,6 @@
 //! Writes to the store that keeps nothing.
 ghost use Rattle.std.specs.Prelude.{◌≡◌, IfErr, IfOk, Ok, Some, length};
-ghost use Rattle.gixobj_fields.specs.StreamHash.{ReadsObject, SkipsExactly};
+ghost use Rattle.gixobj_encode.specs.StreamHash.{ReadsObject, SkipsExactly};
 ghost use Rattle.gixobj_hash.specs.Hash.{id_of};
 ghost use Rattle.gixobj_hash.specs.declared.hash.kind.Kind.TheVariants.{Sha1};
 ghost use Rattle.gixobj_find.specs.NeverWrites.{AnswersId, AnswersKnownId, IsReadError};
@@ -9,8 +9,8 @@ ghost use Rattle.gixobj_find.specs.Writers.{CannotEncode, IsWrittenObject};
 use super::Never;
 use crate::traits::Write;
 use crate::write::Error;
-use gixobj_fields::WriteTo;
-use gixobj_fields::stream_hash::{compute_stream_hash, skip_stream};
+use gixobj_encode::WriteTo;
+use gixobj_encode::stream_hash::{compute_stream_hash, skip_stream};
 use gixobj_hash::hash::ObjectId;
 use gixobj_hash::{Kind, compute_hash, hash};
 use std::alloc::Global;

@@ -2,7 +2,7 @@
 
 use crate::traits::Write;
 use crate::write::Error;
-use gixobj_fields::WriteTo;
+use gixobj_encode::WriteTo;
 use gixobj_hash::Kind;
 use gixobj_hash::hash::ObjectId;
 use std::alloc::Global;

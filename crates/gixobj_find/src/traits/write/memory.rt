@@ -8,7 +8,7 @@ ghost use Rattle.gixobj_find.specs.InMemory.{IsInUse};
 use crate::traits::Write;
 use crate::write::Error;
 use bstr::BString;
-use gixobj_fields::WriteTo;
+use gixobj_encode::WriteTo;
 use gixobj_hash::Kind;
 use gixobj_hash::hash::{self, ObjectId};
 use gixobj_keep::Memory;

@@ -3,8 +3,8 @@ ghost use Rattle.gixobj_streams.specs.Writing.{IsSize};
 ghost use Rattle.gixobj_object.specs.BorrowedObjects.{IsReadyToWrite, encode_borrowed_object};
 
 use super::ObjectRef;
-use gixobj_fields::WriteTo;
-use gixobj_fields::encode::Error;
+use gixobj_encode::WriteTo;
+use gixobj_encode::encode::Error;
 use gixobj_hash::Kind;
 use gixobj_streams::streams::Sink;
 use std::alloc::Global;

@@ -6,7 +6,7 @@ ghost use Rattle.gixobj_tag.specs.TagWriting.{encode_signature};
 use super::super::Tag;
 use super::{unsigned_size, write_tag};
 use bstr::BString;
-use gixobj_fields::{WriteTo, encode};
+use gixobj_encode::{WriteTo, encode};
 use gixobj_hash::Kind;
 use gixobj_hash::optional::borrowed;
 use gixobj_streams::streams::Sink;

@@ -3,8 +3,8 @@ ghost use Rattle.gixobj_tree.specs.TreeViews.{tree_entries};
 
 use super::TreeRef;
 use crate::tree::write::{size_with_entry_ref, write_entry_ref};
-use gixobj_fields::WriteTo;
-use gixobj_fields::encode::Error;
+use gixobj_encode::WriteTo;
+use gixobj_encode::encode::Error;
 use gixobj_hash::Kind;
 use gixobj_streams::streams::Sink;
 use std::alloc::Global;

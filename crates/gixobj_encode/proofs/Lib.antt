@@ -1,0 +1,4 @@
+pub mod FieldWrites
+mod FoldedSizes
+pub mod HeadersRoundTrip
+mod StreamReads

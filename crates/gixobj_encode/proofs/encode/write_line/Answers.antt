@@ -1,0 +1,5 @@
+use Rattle.std.proofs.Common.{rules}
+use Rattle.gixobj_encode.proofs.encode.write_line.Goals as goal
+
+pub returns-clause-appended : goal.returns-clause-appended
+returns-clause-appended g c = search rules

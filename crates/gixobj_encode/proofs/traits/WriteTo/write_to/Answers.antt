@@ -1,0 +1,5 @@
+use Rattle.std.proofs.Common.{rules}
+use Rattle.gixobj_encode.proofs.traits.WriteTo.write_to.Goals as goal
+
+pub returns-clause-written : goal.returns-clause-written
+returns-clause-written g c = search rules

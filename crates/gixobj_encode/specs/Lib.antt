@@ -1,0 +1,10 @@
+pub mod FieldWriting
+pub mod StreamHash
+pub use Rattle.gixobj_hash.specs.Bytes
+pub use Rattle.gixobj_hash.specs.ByteStrings
+pub use Rattle.gixobj_hash.specs.Encode
+pub use Rattle.gixobj_hash.specs.Hash
+pub use Rattle.gixobj_hash.specs.HeaderFormat
+pub use Rattle.gixobj_hash.specs.Kind
+pub use Rattle.gixobj_streams.specs.Streams
+pub use Rattle.gixobj_streams.specs.Writing

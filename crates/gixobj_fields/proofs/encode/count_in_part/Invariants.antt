@@ -1,7 +1,0 @@
--- The newlines before the current byte are counted.
-use Rattle.std.proofs.Common.{◌≡◌, take}
-use Rattle.gixobj_fields.specs.FieldWriting.{newlines}
-use Rattle.gixobj_fields.proofs.encode.count_in_part.Given as goal
-
-abbrev pub invariant-loop-byte : goal.invariant-loop-byte
-invariant-loop-byte l = l.count ≡ newlines (take l.byte-index l.part)

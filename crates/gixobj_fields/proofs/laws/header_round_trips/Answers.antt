@@ -1,5 +1,0 @@
-use Rattle.gixobj_fields.proofs.HeadersRoundTrip as law
-use Rattle.gixobj_fields.proofs.laws.header_round_trips.Goals as goal
-
-pub returns : goal.returns
-returns c = law.header_round_trips

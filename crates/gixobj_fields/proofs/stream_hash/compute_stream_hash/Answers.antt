@@ -1,5 +1,0 @@
-use Rattle.std.proofs.Common.{rules}
-use Rattle.gixobj_fields.proofs.stream_hash.compute_stream_hash.Goals as goal
-
-pub returns-clause-found : goal.returns-clause-found
-returns-clause-found g c = search rules

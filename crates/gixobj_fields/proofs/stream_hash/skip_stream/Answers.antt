@@ -1,5 +1,0 @@
-use Rattle.std.proofs.Common.{rules}
-use Rattle.gixobj_fields.proofs.stream_hash.skip_stream.Goals as goal
-
-pub returns-clause-remaining : goal.returns-clause-remaining
-returns-clause-remaining g c = search rules
