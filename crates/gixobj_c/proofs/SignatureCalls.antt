@@ -6,7 +6,7 @@ use Rattle.gixobj_calls.specs.Buffers.{WritesTwo}
 use Rattle.gixobj_c.specs.Signatures.{IsCommitSignatureCall}
 use Rattle.gixobj_c.specs.Spans.{HasPieceBefore}
 use Rattle.gixobj_hash.specs.declared.hash.kind.Kind.{Kind}
-use Rattle.gixobj_tokens.specs.CommitSignatures.{HasCommitSignature}
+use Rattle.gixobj_line.specs.CommitSignatures.{HasCommitSignature}
 
 pub signature_before_end : (tag signed signature : List ℕ) → tag ≡ signed ++ signature → HasPieceBefore tag signature 0
 signature_before_end tag signed signature joined = record {

@@ -6,8 +6,8 @@ use Rattle.gixobj_c.specs.Spans.{IsSpanOf}
 use Rattle.gixobj_c.specs.declared.spans.Span.{Span}
 use Rattle.gixobj_hash.specs.declared.decode.Error.TheVariants as error
 use Rattle.gixobj_hash.specs.declared.hash.kind.Kind.{Kind}
-use Rattle.gixobj_tokens.specs.CommitSignatures.{HasCommitSignature, HasNoSignature, IsCommitSignatureError}
-use Rattle.gixobj_tokens.specs.TagSignatures.{HasTagSignature}
+use Rattle.gixobj_line.specs.CommitSignatures.{HasCommitSignature, HasNoSignature, IsCommitSignatureError}
+use Rattle.gixobj_line.specs.TagSignatures.{HasTagSignature}
 use Rattle.gixobj_formats.specs.Markers.{HasNoMarker}
 use Rattle.gixobj_formats.specs.declared.signature.Format.{Format}
 

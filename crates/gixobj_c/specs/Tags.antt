@@ -8,9 +8,9 @@ use Rattle.gixobj_c.specs.declared.tags.TagToken.{TagToken}
 use Rattle.gixobj_hash.specs.HeaderFormat.{BeginsWithField}
 use Rattle.gixobj_hash.specs.Runs.{HasNoPiece}
 use Rattle.gixobj_hash.specs.declared.hash.kind.Kind.{Kind}
-use Rattle.gixobj_tokens.specs.TagTokens.{BeginsWithTagToken, TagTokenView, body_token, kind_token, name_token, no_tagger_token, tagger_token, target_token}
-use Rattle.gixobj_tokens.specs.declared.tag.State.{State}
-use Rattle.gixobj_tokens.specs.declared.tag.State.TheVariants as state
+use Rattle.gixobj_line.specs.TagTokens.{BeginsWithTagToken, TagTokenView, body_token, kind_token, name_token, no_tagger_token, tagger_token, target_token}
+use Rattle.gixobj_line.specs.declared.tokens.State.{State}
+use Rattle.gixobj_line.specs.declared.tokens.State.TheVariants as state
 
 -- the state of this number
 abbrev pub tag_state_of_code : ℕ → Option State

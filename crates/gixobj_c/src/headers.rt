@@ -7,7 +7,7 @@ use gixobj_calls::buffers::write_bytes;
 use gixobj_calls::codes::{MALFORMED, NOT_FOUND, OUT_OF_MEMORY, UNKNOWN_CODE, hash_of_code};
 use gixobj_hash::decode::Error;
 use gixobj_hash::hash::Kind;
-use gixobj_tokens::commit::find_header;
+use gixobj_line::headers::find_header;
 use std::alloc::Global;
 
 /// Writes the value of the first extra header of this name in a commit. Headers of several lines allocate, up to that

@@ -10,7 +10,7 @@ use gixobj_formats::signature;
 use gixobj_hash::OutOfMemory;
 use gixobj_hash::decode::Error;
 use gixobj_hash::hash::Kind;
-use gixobj_tokens::commit::find_signature;
+use gixobj_line::headers::find_signature;
 use std::alloc::Global;
 
 /// Finds the signature of a tag. It signs all bytes before it. Allocates nothing.

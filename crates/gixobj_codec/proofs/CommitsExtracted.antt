@@ -11,7 +11,7 @@ use Rattle.std.specs.Cmp.Lexicographic.{bytes_decides, pointwise}
 use Rattle.std.proofs.lemmas.Grind.{flat_map-append}
 use Rattle.std.proofs.lemmas.List.Elements.{All-append, All-cons, All-head, All-nil, All-tail}
 use Rattle.gixobj_commit.specs.CommitWriting.{encode_commit}
-use Rattle.gixobj_tokens.specs.CommitSignatures.{signature_field, HasCommitSignature}
+use Rattle.gixobj_line.specs.CommitSignatures.{signature_field, HasCommitSignature}
 use Rattle.gixobj_fields.proofs.HeaderFields.{header_unique}
 use Rattle.gixobj_encode.proofs.HeadersRoundTrip.{header_round_trips}
 use Rattle.gixobj_encode.specs.FieldWriting.{encode_header, value_lines}
@@ -26,7 +26,7 @@ use Rattle.gixobj_line.specs.declared.lines.State.{State}
 use Rattle.gixobj_line.specs.declared.lines.State.TheVariants as state
 use Rattle.gixobj_hash.specs.Bytes.{newline, space}
 use Rattle.gixobj_hash.specs.ByteStrings.{IsByteFree}
-use Rattle.gixobj_tokens.specs.CommitHeaders.{IsNamedLine}
+use Rattle.gixobj_line.specs.CommitHeaders.{IsNamedLine}
 use Rattle.gixobj_commit.specs.CommitSigning.{is_header_named, with_signature, without_headers}
 use Rattle.gixobj_codec.specs.LineFields.{HasHeaderNames, HasLineFields, IsOneLine}
 

@@ -11,11 +11,11 @@ use Rattle.gixobj_hash.specs.declared.hash.kind.Kind.{Kind}
 use Rattle.gixobj_line.proofs.TagLines.{tagger_unique}
 use Rattle.gixobj_line.specs.TagLines.{BeginsWithTagger}
 use Rattle.gixobj_line.specs.TagPrefix.{IsTag}
-use Rattle.gixobj_tokens.specs.TagSignatures.{HasTagSignature}
+use Rattle.gixobj_line.specs.TagSignatures.{HasTagSignature}
 use Rattle.gixobj_tag.proofs.EntireTags.{Reads, parts_of_decoded_tag}
 use Rattle.gixobj_tag.specs.Rewriting.{PreservesBody}
 use Rattle.gixobj_tag.specs.TagFormat.{DecodesToTag, TagLines, encode_tag_lines, encode_tagger}
-use Rattle.gixobj_tokens.specs.TagBodies.{IsBody, after_a_newline, newlines_alone}
+use Rattle.gixobj_line.specs.TagBodies.{IsBody, after_a_newline, newlines_alone}
 use Rattle.gixobj_tag.specs.TagSigning.{payload_of_tag, signed_as}
 use Rattle.gixobj_tag.specs.TagWriting.{encode_tag}
 use Rattle.gixobj_formats.proofs.MarkerPlaces.{no_marker_and_marker_place}

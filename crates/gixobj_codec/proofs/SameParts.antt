@@ -4,7 +4,7 @@ use Rattle.std.proofs.lemmas.List.Elements.{All-cons, All-head, All-nil, All-tai
 use Rattle.std.specs.List.{flat_map}
 use Rattle.std.specs.Prelude.{map}
 use Rattle.gixobj_actor.specs.Actor.{NamesActor}
-use Rattle.gixobj_tokens.specs.CommitSignatures.{signature_field}
+use Rattle.gixobj_line.specs.CommitSignatures.{signature_field}
 use Rattle.gixobj_fields.proofs.HeaderFields.{header_unique, hex_digits_newline_free}
 use Rattle.gixobj_hash.proofs.Runs.{yields_after_pieces}
 use Rattle.gixobj_hash.specs.HeaderFormat.{BeginsWithHeader, Header}

@@ -3,7 +3,7 @@
 use Rattle.std.proofs.Common.{◌≡◌, ◌≢◌, inl, inr, ◌<◌, arith, length, ℕ, List, [], ◌∷◌, ◌++◌, ◌∙◌, All, refl, sym, ap, subst, append_assoc}
 use Rattle.std.proofs.lemmas.List.Elements.{All-head, All-tail}
 use Rattle.gixobj_commit.specs.CommitWriting.{encode_commit}
-use Rattle.gixobj_tokens.specs.CommitSignatures.{signature_field, HasNoSignature, IsCommitSignatureError}
+use Rattle.gixobj_line.specs.CommitSignatures.{signature_field, HasNoSignature, IsCommitSignatureError}
 use Rattle.gixobj_fields.proofs.HeaderFields.{header_unique}
 use Rattle.gixobj_encode.specs.FieldWriting.{encode_header}
 use Rattle.gixobj_hash.specs.HeaderFormat.{EndsHeader, BeginsWithHeader, BeginsWithNoHeader, Header, DecodesToHeader}
@@ -17,7 +17,7 @@ use Rattle.gixobj_line.specs.Lines.{BeginsWithLine, LineView}
 use Rattle.gixobj_line.specs.declared.lines.State.{State}
 use Rattle.gixobj_line.specs.declared.lines.State.TheVariants as state
 use Rattle.gixobj_codec.proofs.CommitsExtracted.{Blocks, IsBlockLine, block_line_of_header, has_header_last, has_header_before_last, ends_header_append, blocks_append, blocks_nil, read_again, signature_field_is_header_name, signed_payload, the_header, unsigned_prefix, written_blocks, encode_header_decodes}
-use Rattle.gixobj_tokens.specs.CommitHeaders.{IsNamedLine}
+use Rattle.gixobj_line.specs.CommitHeaders.{IsNamedLine}
 use Rattle.gixobj_commit.specs.CommitSigning.{with_signature}
 use Rattle.gixobj_codec.specs.LineFields.{HasHeaderNames, HasLineFields}
 

@@ -13,14 +13,14 @@ use Rattle.gixobj_signature.specs.Plans.{CarriesOut}
 use Rattle.gixobj_signature.specs.Signing.{sign_options_view, sign_plan, signature}
 use Rattle.gixobj_signature.specs.declared.signature.sign.Error.{Error}
 use Rattle.gixobj_signature.specs.declared.signature.sign.Options.{Options}
-use Rattle.gixobj_tokens.specs.TagSignatures as tags
+use Rattle.gixobj_line.specs.TagSignatures as tags
 use Rattle.gixobj_tag.specs.TagSigning as tag
 use Rattle.gixobj_formats.specs.Markers.{HasNoMarker}
 use Rattle.gixobj_tag.specs.TagFormat.{TagLines}
 use Rattle.gixobj_tag.specs.TagViews as tag_views
 use Rattle.gixobj_tag.specs.TagWriting.{encode_tag}
 use Rattle.gixobj_tag.specs.declared.tag.Tag.{Tag}
-use Rattle.gixobj_tokens.specs.CommitSignatures as commits
+use Rattle.gixobj_line.specs.CommitSignatures as commits
 use Rattle.gixobj_codec.proofs.CommitsExtracted.{payload_extracted}
 use Rattle.gixobj_codec.proofs.ReceivedCommits.{signature_of_decoded}
 use Rattle.gixobj_codec.proofs.SignaturesFound.{signature_is_there}

@@ -13,12 +13,12 @@ use Rattle.gixobj_formats.specs.Markers.{BeginsWithMarker, HasNoMarker, IsMarker
 use Rattle.gixobj_formats.specs.declared.signature.Format.{Format}
 use Rattle.gixobj_formats.specs.declared.signature.SignatureRef.{SignatureRef}
 use Rattle.gixobj_ref_iter.specs.TagExtracting.{FindsSignatureOfTag}
-use Rattle.gixobj_tokens.specs.TagSignatures.{HasTagSignature}
+use Rattle.gixobj_line.specs.TagSignatures.{HasTagSignature}
 use Rattle.gixobj_tag.proofs.EntireTags.{Reads, parts_of_decoded_tag}
 use Rattle.gixobj_line.specs.TagLines.{BeginsWithTagger}
 use Rattle.gixobj_tag.specs.Signed.{IsSignature}
 use Rattle.gixobj_tag.specs.TagFormat.{DecodesToTag, TagLines, encode_tag_lines, encode_tagger}
-use Rattle.gixobj_tokens.specs.TagBodies.{IsBody, IsParted, are_newlines, after_a_newline, newlines_alone, signed, signed_at_once, unsigned}
+use Rattle.gixobj_line.specs.TagBodies.{IsBody, IsParted, are_newlines, after_a_newline, newlines_alone, signed, signed_at_once, unsigned}
 use Rattle.gixobj_hash.proofs.Splits.{byte_free_of_all_pass}
 use Rattle.gixobj_hash.specs.ByteStrings.{IsByteFree}
 use Rattle.gixobj_signature.specs.SignedBytes.{signed_bytes}

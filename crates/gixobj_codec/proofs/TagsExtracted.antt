@@ -6,7 +6,7 @@ use Rattle.gixobj_formats.specs.Markers.{BeginsWithMarker, HasNoMarker, IsMarker
 use Rattle.gixobj_formats.specs.declared.signature.Format.{Format}
 use Rattle.gixobj_tag.specs.TagFormat.{TagLines, encode_tag_lines}
 use Rattle.gixobj_tag.specs.TagWriting.{encode_message, encode_tag}
-use Rattle.gixobj_tokens.specs.TagSignatures.{HasTagSignature}
+use Rattle.gixobj_line.specs.TagSignatures.{HasTagSignature}
 use Rattle.gixobj_tag.specs.TagSigning.{payload_of_tag, signed_as}
 use Rattle.gixobj_codec.specs.OneMarker.{HasOneMarker}
 

@@ -37,9 +37,14 @@ pub use Rattle.gixobj_hash.specs.Optional
 pub use Rattle.gixobj_hash.specs.Runs
 pub use Rattle.gixobj_hash.specs.declared as hash
 pub use Rattle.gixobj_line.specs.Commit
+pub use Rattle.gixobj_line.specs.CommitHeaders
+pub use Rattle.gixobj_line.specs.CommitSignatures
 pub use Rattle.gixobj_line.specs.Lines
+pub use Rattle.gixobj_line.specs.TagBodies
 pub use Rattle.gixobj_line.specs.TagLines
 pub use Rattle.gixobj_line.specs.TagPrefix
+pub use Rattle.gixobj_line.specs.TagSignatures
+pub use Rattle.gixobj_line.specs.TagTokens
 pub use Rattle.gixobj_line.specs.declared as line
 pub use Rattle.gixobj_object.specs.BorrowedObjects
 pub use Rattle.gixobj_object.specs.LooseObjects
@@ -90,12 +95,6 @@ pub use Rattle.gixobj_text.specs.TrailerSteps
 pub use Rattle.gixobj_text.specs.Trailers
 pub use Rattle.gixobj_text.specs.Unfolding
 pub use Rattle.gixobj_text.specs.declared as message
-pub use Rattle.gixobj_tokens.specs.CommitHeaders
-pub use Rattle.gixobj_tokens.specs.CommitSignatures
-pub use Rattle.gixobj_tokens.specs.TagBodies
-pub use Rattle.gixobj_tokens.specs.TagSignatures
-pub use Rattle.gixobj_tokens.specs.TagTokens
-pub use Rattle.gixobj_tokens.specs.declared as tokens
 pub use Rattle.gixobj_tree.specs.Rewriting as TreeRewriting
 pub use Rattle.gixobj_tree.specs.TreeViews
 pub use Rattle.gixobj_tree.specs.declared as tree

@@ -10,8 +10,8 @@ use Rattle.gixobj_signature.specs.declared.signature.sign.Options.{Options}
 use Rattle.gixobj_codec.specs.OneMarker.{HasOneMarker}
 use Rattle.gixobj_formats.specs.Markers.{HasNoMarker}
 use Rattle.gixobj_formats.specs.declared.signature.Format.{Format}
-use Rattle.gixobj_tokens.specs.TagSignatures as tags
-use Rattle.gixobj_tokens.specs.CommitSignatures as commits
+use Rattle.gixobj_line.specs.TagSignatures as tags
+use Rattle.gixobj_line.specs.CommitSignatures as commits
 
 -- the calls that were made carried out the plan for this payload, and led to a signature
 abbrev pub WasSigned : {S : Type 0} → (S → CallView → Answer → S → Type 0) → Options → List ℕ → S → S → Type 0

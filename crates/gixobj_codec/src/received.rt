@@ -3,10 +3,10 @@
 ghost use Rattle.std.specs.Prelude.{ℕ, List};
 ghost use Rattle.gixobj_codec.specs.ReceivedSignatures.{HasFirstValue, SignsCommit, SignsTag, without_first_header};
 ghost use Rattle.gixobj_commit.specs.CommitWriting.{encode_commit};
-ghost use Rattle.gixobj_tokens.specs.CommitSignatures.{signature_field, HasCommitSignature};
+ghost use Rattle.gixobj_line.specs.CommitSignatures.{signature_field, HasCommitSignature};
 ghost use Rattle.gixobj_hash.specs.declared.hash.kind.Kind.{Kind};
 ghost use Rattle.gixobj_line.specs.Commit.{CommitLines, DecodesToCommit};
-ghost use Rattle.gixobj_tokens.specs.TagSignatures.{HasTagSignature};
+ghost use Rattle.gixobj_line.specs.TagSignatures.{HasTagSignature};
 ghost use Rattle.gixobj_tag.specs.TagFormat.{DecodesToTag, TagLines};
 ghost use Rattle.gixobj_formats.specs.declared.signature.Format.{Format};
 

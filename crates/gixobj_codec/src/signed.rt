@@ -17,13 +17,13 @@ ghost use Rattle.gixobj_formats.specs.Markers.{HasNoMarker};
 ghost use Rattle.gixobj_formats.specs.declared.signature.Format.{Format};
 ghost use Rattle.gixobj_formats.specs.declared.signature.SignatureRef.{SignatureRef};
 ghost use Rattle.gixobj_ref_iter.specs.TagExtracting.{FindsSignatureOfTag};
-ghost use Rattle.gixobj_tokens.specs.TagSignatures as tags;
+ghost use Rattle.gixobj_line.specs.TagSignatures as tags;
 ghost use Rattle.gixobj_tag.specs.Signed.{IsSignature};
 ghost use Rattle.gixobj_tag.specs.TagSigning as tag_signing;
 ghost use Rattle.gixobj_tag.specs.TagFormat.{DecodesToTag, TagLines};
 ghost use Rattle.gixobj_tag.specs.TagViews as tag_views;
 ghost use Rattle.gixobj_tag.specs.TagWriting.{encode_tag};
-ghost use Rattle.gixobj_tokens.specs.CommitSignatures.{HasNoSignature, HasCommitSignature, IsCommitSignatureError};
+ghost use Rattle.gixobj_line.specs.CommitSignatures.{HasNoSignature, HasCommitSignature, IsCommitSignatureError};
 ghost use Rattle.gixobj_signature.specs.declared.signature.signed_data.SignedData.{SignedData};
 
 use crate::one_line::{actor_has_one_line, id_has_one_line, ids_have_one_line};

@@ -7,7 +7,7 @@ use Rattle.gixobj_commit.specs.CommitSigning.{GetsCommitSignature, IsSignedCommi
 use Rattle.gixobj_commit.specs.CommitViews.{owned_commit_lines}
 use Rattle.gixobj_commit.specs.CommitWriting.{IsOwnedCommitError, encode_commit}
 use Rattle.gixobj_commit.specs.declared.commit.Commit.{Commit}
-use Rattle.gixobj_tokens.specs.CommitSignatures.{signature_field}
+use Rattle.gixobj_line.specs.CommitSignatures.{signature_field}
 use Rattle.gixobj_streams.specs.Writing.{IsEncodingError, RejectedValue, RejectsNothing}
 use Rattle.gixobj_streams.specs.declared.encode.Error as encode
 use Rattle.gixobj_hash.specs.Hash.{id_kind}

@@ -5,7 +5,7 @@ use Rattle.gixobj_commit.specs.CommitOwned.{IsOwnedFormOfCommit, IsIntoOwnedComm
 use Rattle.gixobj_commit.specs.CommitViews.{owned_commit_lines}
 use Rattle.gixobj_commit.specs.CommitWriting.{IsOwnedCommitError, encode_commit}
 use Rattle.gixobj_commit.specs.declared.commit.Commit.{Commit}
-use Rattle.gixobj_tokens.specs.CommitSignatures.{signature_field}
+use Rattle.gixobj_line.specs.CommitSignatures.{signature_field}
 use Rattle.gixobj_hash.specs.HeaderFormat.{Header}
 use Rattle.gixobj_streams.specs.Writing.{IsEncodingError, RejectsNothing}
 use Rattle.gixobj_streams.specs.declared.encode.Error as encode

@@ -23,4 +23,4 @@ pub use Rattle.gixobj_hash.specs.Kind
 pub use Rattle.gixobj_hash.specs.ByteStrings
 pub use Rattle.gixobj_line.specs.Commit
 pub use Rattle.gixobj_line.specs.Lines
-pub use Rattle.gixobj_tokens.specs.CommitSignatures
+pub use Rattle.gixobj_line.specs.CommitSignatures

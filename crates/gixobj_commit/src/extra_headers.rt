@@ -5,7 +5,7 @@ ghost use Rattle.bstr.specs.BStr.{bstr_bytes};
 ghost use Rattle.std.specs.Iterator.{IsFinite, MakesProgress, size};
 ghost use Rattle.gixobj_fields.specs.HeaderReading.{header_of, owned_header_of};
 ghost use Rattle.gixobj_commit.specs.ExtraHeaders.{FindsPosition, FindsValue, NextValue, hash_kind_of, iterator_of, searched, searched_name};
-ghost use Rattle.gixobj_tokens.specs.CommitSignatures.{signature_field};
+ghost use Rattle.gixobj_line.specs.CommitSignatures.{signature_field};
 ghost use Rattle.gixobj_commit.specs.RemainingHeaders.{remaining_headers, remaining_owned_headers};
 ghost use Rattle.gixobj_commit.specs.Mergetags.{IsTagOf, mergetag_kind, mergetag_values};
 
@@ -13,7 +13,7 @@ use bstr::{BStr, BString};
 use gixobj_hash::decode::Error;
 use gixobj_hash::hash::Kind;
 use gixobj_tag::TagRef;
-pub use gixobj_tokens::commit::{
+pub use gixobj_line::headers::{
     SIGNATURE_FIELD_NAME, SIGNATURE_FIELD_NAME_SHA256, signature_field_name,
 };
 use std::borrow::CowSlice;

@@ -3,6 +3,9 @@ pub mod EntireCommits
 mod LineErrors
 pub mod LinesYielded
 pub mod OneLine
+mod Searching
 mod SkippedLines
+pub mod TagBodies
 pub mod TagLines
 mod TagPrefixes
+mod TaggerTokens

@@ -1,6 +1,11 @@
 pub mod Commit
 pub mod CommitBuilding
+pub mod CommitHeaders
+pub mod CommitSignatures
 pub mod Lines
+pub mod TagBodies
 pub mod TagLineViews
 pub mod TagLines
 pub mod TagPrefix
+pub mod TagSignatures
+pub mod TagTokens

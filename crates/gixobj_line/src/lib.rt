@@ -1,7 +1,12 @@
-//! The lines of commits and of tags (gitdatamodel, "commits", "tag objects"), for the decoders in crates above.
+//! The lines of commits and of tags, the tokens and bodies of tags, and the search for a header in the encoding
+//! of a commit (gitdatamodel, "commits", "tag objects"). The decoders in crates above share them.
+//!
 //! Two calls report whether bytes are the encoding of a commit or of a tag at all, and allocate nothing.
 #![tactic(auto)]
 
+pub mod bodies;
 pub mod commits;
+pub mod headers;
 pub mod lines;
 pub mod tags;
+pub mod tokens;

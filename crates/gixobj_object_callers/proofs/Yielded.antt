@@ -9,10 +9,10 @@ use Rattle.gix_object.specs.TagTokenSteps.{NextTagToken, IsAtStartOfTag, YieldsT
 use Rattle.gix_object.specs.TagTokens.{BeginsWithTagToken, TagTokenView, kind_token, name_token, tag_token_id, tag_token_view, target_token}
 use Rattle.gix_object.specs.hash.hash.kind.Kind.{Kind}
 use Rattle.gix_object.specs.hash.hash.object_id.ObjectId.{ObjectId}
-use Rattle.gix_object.specs.tokens.tag.State.{State}
-use Rattle.gix_object.specs.tokens.tag.State.TheVariants as state
+use Rattle.gix_object.specs.line.tokens.State.{State}
+use Rattle.gix_object.specs.line.tokens.State.TheVariants as state
 use Rattle.gix_object.specs.ref_iter.tag.TagRefIter.{TagRefIter}
-use Rattle.gix_object.specs.tokens.tag.Token.{Token}
+use Rattle.gix_object.specs.line.tokens.Token.{Token}
 use Rattle.gixobj_object_callers.specs.Yielded.{IsToYield}
 
 -- ---- the laws, as their functions state them

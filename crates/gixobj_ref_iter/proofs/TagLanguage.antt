@@ -18,12 +18,12 @@ use Rattle.gixobj_tag.proofs.Bodies.{body_unique}
 use Rattle.gixobj_tag.proofs.EntireTags.{Reads, decodes_tag_of_parts, parts_of_decoded_tag}
 use Rattle.gixobj_line.specs.TagLines.{BeginsWithTagName, BeginsWithTagger}
 use Rattle.gixobj_ref_iter.specs.TagReaders.{AreTokensOfTag, IsOptionalToken, IsAfterName, misses_body, misses_nothing, misses_tagger_and_body}
-use Rattle.gixobj_tokens.specs.TagTokens.{IsTokenOfTagger, yields_no_tagger, yields_tagger, TagTokenView, body_comes, body_token, kind_comes, kind_token, name_comes, name_token, no_tagger_comes, no_tagger_token, tagger_comes, tagger_token, target_comes, target_token}
+use Rattle.gixobj_line.specs.TagTokens.{IsTokenOfTagger, yields_no_tagger, yields_tagger, TagTokenView, body_comes, body_token, kind_comes, kind_token, name_comes, name_token, no_tagger_comes, no_tagger_token, tagger_comes, tagger_token, target_comes, target_token}
 use Rattle.gixobj_tag.specs.TagFormat.{DecodesToTag, TagLines}
-use Rattle.gixobj_tokens.specs.TagBodies.{IsBody, newlines_alone}
+use Rattle.gixobj_line.specs.TagBodies.{IsBody, newlines_alone}
 use Rattle.gixobj_ref_iter.specs.TagTokenSteps.{YieldsTagTokens}
-use Rattle.gixobj_tokens.specs.declared.tag.State.{State}
-use Rattle.gixobj_tokens.specs.declared.tag.State.TheVariants as state
+use Rattle.gixobj_line.specs.declared.tokens.State.{State}
+use Rattle.gixobj_line.specs.declared.tokens.State.TheVariants as state
 
 -- the tokens from the tagger on, and those that are missing at the end
 record TailYielded (kind : hash.Kind) (before : State) (input : List ℕ) (all : List TagTokenView) : Type 0 where

@@ -9,12 +9,12 @@ use Rattle.gixobj_hash.specs.declared.decode.Error.{Error}
 use Rattle.gixobj_hash.specs.declared.decode.Error.TheVariants.{Malformed, OutOfMemory}
 use Rattle.gixobj_hash.specs.declared.hash.kind.Kind.{Kind}
 use Rattle.gixobj_ref_iter.proofs.TagTokens.{remaining_len_le, no_tag_token_of_nil, tag_token_unique, tag_token_bytes_exist}
-use Rattle.gixobj_tokens.specs.TagTokens.{BeginsWithTagToken, DecodesToTagToken, TagTokenView, tag_token_view}
+use Rattle.gixobj_line.specs.TagTokens.{BeginsWithTagToken, DecodesToTagToken, TagTokenView, tag_token_view}
 use Rattle.gixobj_ref_iter.specs.TagTokenSteps.{DecodesToTagTokens, NextTagToken, IsTaggerToken, YieldsTagTokens, NoTokenAllocates, tag_reader_state}
-use Rattle.gixobj_tokens.specs.declared.tag.State.{State}
+use Rattle.gixobj_line.specs.declared.tokens.State.{State}
 use Rattle.gixobj_ref_iter.specs.declared.tag.TagRefIter.{TagRefIter}
-use Rattle.gixobj_tokens.specs.declared.tag.Token.{Token}
-use Rattle.gixobj_tokens.specs.declared.tag.Token.TheVariants as token
+use Rattle.gixobj_line.specs.declared.tokens.Token.{Token}
+use Rattle.gixobj_line.specs.declared.tokens.Token.TheVariants as token
 use Rattle.gixobj_actor.specs.declared.actor.SignatureRef.{SignatureRef}
 
 pub token_run_unique : (kind : Kind) (before : State) (input : List ℕ) (a b : List TagTokenView) (e f : Ending) → YieldsTagTokens kind before input a e

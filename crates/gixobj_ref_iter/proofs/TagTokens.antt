@@ -17,9 +17,9 @@ use Rattle.gixobj_hash.specs.declared.hash.kind.Kind as hash
 use Rattle.gixobj_hash.specs.declared.hash.object_id.ObjectId.{ObjectId}
 use Rattle.gixobj_tag.proofs.Bodies.{body_unique}
 use Rattle.gixobj_line.proofs.TagLines.{no_tagger_and_begins_field}
-use Rattle.gixobj_tokens.specs.TagTokens.{BeginsWithTagToken, DecodesToTagToken, TagTokenView, body_comes, kind_comes, kind_token, name_comes, name_token, no_tagger_comes, tagger_comes, tagger_token, target_comes, target_token}
+use Rattle.gixobj_line.specs.TagTokens.{BeginsWithTagToken, DecodesToTagToken, TagTokenView, body_comes, kind_comes, kind_token, name_comes, name_token, no_tagger_comes, tagger_comes, tagger_token, target_comes, target_token}
 use Rattle.gixobj_ref_iter.specs.TagTokenSteps.{remaining_states}
-use Rattle.gixobj_tokens.specs.declared.tag.State.{State}
+use Rattle.gixobj_line.specs.declared.tokens.State.{State}
 
 -- ---- a token consumes bytes, or at least a state
 

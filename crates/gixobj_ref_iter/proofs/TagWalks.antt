@@ -6,12 +6,12 @@ use Rattle.gixobj_hash.specs.Runs.{HasNoPiece, broken, complete, yields_end, yie
 use Rattle.gixobj_hash.specs.declared.decode.Error.{Error}
 use Rattle.gixobj_hash.specs.declared.decode.Error.TheVariants.{Malformed, OutOfMemory}
 use Rattle.gixobj_hash.specs.declared.hash.kind.Kind.{Kind}
-use Rattle.gixobj_tokens.specs.TagTokens.{BeginsWithTagToken, TagTokenView, tag_token_view}
+use Rattle.gixobj_line.specs.TagTokens.{BeginsWithTagToken, TagTokenView, tag_token_view}
 use Rattle.gixobj_ref_iter.specs.TagTokenSteps.{NextTagToken, HasConsumedTagTokens, IsAtStartOfTag, YieldsTagTokens, tag_reader_state}
-use Rattle.gixobj_tokens.specs.declared.tag.State.{State}
-use Rattle.gixobj_tokens.specs.declared.tag.State.TheVariants as state
+use Rattle.gixobj_line.specs.declared.tokens.State.{State}
+use Rattle.gixobj_line.specs.declared.tokens.State.TheVariants as state
 use Rattle.gixobj_ref_iter.specs.declared.tag.TagRefIter.{TagRefIter}
-use Rattle.gixobj_tokens.specs.declared.tag.Token.{Token}
+use Rattle.gixobj_line.specs.declared.tokens.Token.{Token}
 
 module _ (kind : Kind) (content : List ℕ) where
   pub starts : (reader : TagRefIter) → IsAtStartOfTag kind content reader → HasConsumedTagTokens kind content [] reader

@@ -15,13 +15,13 @@ use Rattle.gixobj_ref_iter.proofs.TagLanguage as language
 use Rattle.gixobj_ref_iter.proofs.TagRuns.{token_run_unique}
 use Rattle.gixobj_ref_iter.proofs.TagTokens.{no_tag_token_of_nil, tag_token_unique}
 use Rattle.gixobj_ref_iter.specs.TagReaders.{AreTokensOfTag, EndsAfterItsName, IsOptionalToken, IsAfterName, AreAllTokensOfTag, misses_body, misses_nothing, misses_tagger_and_body}
-use Rattle.gixobj_tokens.specs.TagTokens.{IsTokenOfTagger, yields_no_tagger, yields_tagger, BeginsWithTagToken, TagTokenView, body_token, kind_token, name_token, no_tagger_token, target_token, tag_token_view, tag_token_id}
+use Rattle.gixobj_line.specs.TagTokens.{IsTokenOfTagger, yields_no_tagger, yields_tagger, BeginsWithTagToken, TagTokenView, body_token, kind_token, name_token, no_tagger_token, target_token, tag_token_view, tag_token_id}
 use Rattle.gixobj_tag.specs.TagFormat.{DecodesToTag, TagLines}
 use Rattle.gixobj_ref_iter.specs.TagTokenSteps.{FindsTagger, NextIdOfTag, NextTagToken, IsAtStartOfTag, IsTaggerToken, YieldsNoTagger, YieldsTagTokens, answered_tag_id, tag_id_or_malformed, tag_reader_state, token_of_tagger}
-use Rattle.gixobj_tokens.specs.declared.tag.State.{State}
-use Rattle.gixobj_tokens.specs.declared.tag.State.TheVariants as state
+use Rattle.gixobj_line.specs.declared.tokens.State.{State}
+use Rattle.gixobj_line.specs.declared.tokens.State.TheVariants as state
 use Rattle.gixobj_ref_iter.specs.declared.tag.TagRefIter.{TagRefIter}
-use Rattle.gixobj_tokens.specs.declared.tag.Token.{Token}
+use Rattle.gixobj_line.specs.declared.tokens.Token.{Token}
 
 -- ---- lists of tokens
 

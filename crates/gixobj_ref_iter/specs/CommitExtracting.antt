@@ -6,7 +6,7 @@ use Rattle.std.specs.declared.alloc.Global.{Global}
 use Rattle.gixobj_hash.specs.declared.hash.kind.Kind.{Kind}
 use Rattle.gixobj_signature.specs.SignedBytes.{signed_bytes}
 use Rattle.gixobj_signature.specs.declared.signature.signed_data.SignedData.{SignedData}
-use Rattle.gixobj_tokens.specs.CommitSignatures.{HasCommitSignature, HasNoSignature}
+use Rattle.gixobj_line.specs.CommitSignatures.{HasCommitSignature, HasNoSignature}
 
 -- the signature of these bytes with the data that it signs, or none
 abbrev pub FindsSignatureOfCommit : Kind → List ℕ → Option (CowSlice ℕ Global × SignedData) → Type 0

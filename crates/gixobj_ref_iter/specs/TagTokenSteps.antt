@@ -12,10 +12,10 @@ use Rattle.gixobj_hash.specs.declared.decode.Error.{Error}
 use Rattle.gixobj_hash.specs.declared.decode.Error.TheVariants.{Malformed}
 use Rattle.gixobj_hash.specs.declared.hash.kind.Kind.{Kind}
 use Rattle.gixobj_hash.specs.declared.hash.object_id.ObjectId.{ObjectId}
-use Rattle.gixobj_tokens.specs.TagTokens.{BeginsWithTagToken, DecodesToTagToken, TagTokenView, no_tagger_token, tagger_token, tag_token_id, tag_token_view}
-use Rattle.gixobj_tokens.specs.declared.tag.State.{State}
-use Rattle.gixobj_tokens.specs.declared.tag.State.TheVariants as state
-use Rattle.gixobj_tokens.specs.declared.tag.Token.{Token}
+use Rattle.gixobj_line.specs.TagTokens.{BeginsWithTagToken, DecodesToTagToken, TagTokenView, no_tagger_token, tagger_token, tag_token_id, tag_token_view}
+use Rattle.gixobj_line.specs.declared.tokens.State.{State}
+use Rattle.gixobj_line.specs.declared.tokens.State.TheVariants as state
+use Rattle.gixobj_line.specs.declared.tokens.Token.{Token}
 use Rattle.gixobj_ref_iter.specs.declared.tag.TagRefIter.{TagRefIter}
 
 -- ---- one token

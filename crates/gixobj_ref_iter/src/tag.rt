@@ -10,7 +10,7 @@ use gixobj_actor::actor::SignatureRef;
 use gixobj_hash::decode::Error;
 use gixobj_hash::hash;
 use gixobj_hash::hash::ObjectId;
-pub use gixobj_tokens::tag::{State, Token, decode_token};
+pub use gixobj_line::tokens::{State, Token, decode_token};
 
 /// An iterator over the tokens of a tag, each decoded when it is yielded. [`TagRefIter::from_bytes`] makes
 /// one.

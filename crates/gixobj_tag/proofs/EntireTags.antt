@@ -16,7 +16,7 @@ use Rattle.gixobj_tag.proofs.Bodies.{body_unique}
 use Rattle.gixobj_line.proofs.TagLines.{tagger_unique}
 use Rattle.gixobj_line.specs.TagLines.{BeginsWithTagName, BeginsWithNoTagName, BeginsWithMalformedTagger, BeginsWithTagger}
 use Rattle.gixobj_tag.specs.TagFormat.{IsMalformedTag, DecodesToTag, IsTaggerLine, TagLines, encode_tagger}
-use Rattle.gixobj_tokens.specs.TagBodies.{IsMalformedBody, IsBody, are_newlines, after_a_newline, newlines_alone}
+use Rattle.gixobj_line.specs.TagBodies.{IsMalformedBody, IsBody, are_newlines, after_a_newline, newlines_alone}
 use Rattle.gixobj_hash.proofs.Splits.{byte_free_of_all_pass}
 use Rattle.gixobj_hash.specs.ByteStrings.{IsByteFree}
 

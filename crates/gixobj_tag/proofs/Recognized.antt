@@ -11,9 +11,9 @@ use Rattle.gixobj_formats.proofs.MarkerPlaces.{begins_with_marker_at_position, m
 use Rattle.gixobj_formats.specs.Markers.{BeginsWithMarker, BeginsWithNoMarker, IsMarkerOf, IsMarkerPlace, HasMarkerAt, StartsLine, pgp_message, pgp_signature, signed_message, ssh_signature}
 use Rattle.gixobj_formats.specs.declared.signature.Format.{Format}
 use Rattle.gixobj_line.specs.TagPrefix.{IsTagBody, IsTag}
-use Rattle.gixobj_tokens.proofs.TagBodies.{is_body_after_newline}
+use Rattle.gixobj_line.proofs.TagBodies.{is_body_after_newline}
 use Rattle.gixobj_tag.specs.TagFormat.{DecodesToTag, TagLines}
-use Rattle.gixobj_tokens.specs.TagBodies.{IsBody, IsParted, are_newlines, after_a_newline, newlines_alone, signed, signed_at_once, unsigned}
+use Rattle.gixobj_line.specs.TagBodies.{IsBody, IsParted, are_newlines, after_a_newline, newlines_alone, signed, signed_at_once, unsigned}
 
 -- ---- a marker at the beginning, or none
 

@@ -3,13 +3,13 @@
 ghost use Rattle.std.specs.Prelude.{IfErr, IfOk, IfSome};
 ghost use Rattle.gixobj_fields.specs.HeaderReading.{BorrowsOneLine};
 ghost use Rattle.gixobj_ref_iter.specs.CommitExtracting.{FindsSignatureOfCommit};
-ghost use Rattle.gixobj_tokens.specs.CommitSignatures.{HasNoSignature, HasCommitSignature, IsCommitSignatureError};
+ghost use Rattle.gixobj_line.specs.CommitSignatures.{HasNoSignature, HasCommitSignature, IsCommitSignatureError};
 
 use super::CommitRefIter;
 use gixobj_hash::decode::Error;
 use gixobj_hash::hash::Kind;
 use gixobj_signature::signature::SignedData;
-use gixobj_tokens::commit::{FoundHeader, find_signature};
+use gixobj_line::headers::{FoundHeader, find_signature};
 use std::alloc::Global;
 use std::borrow::CowSlice;
 
@@ -18,7 +18,7 @@ impl<'a> CommitRefIter<'a> {
     /// Finds the signature in a commit's encoding with ids of `hash_kind`, and the data that it signs.
     ///
     /// The signature is the value of the first header named
-    /// [`signature_field_name`](gixobj_tokens::commit::signature_field_name) of `hash_kind`. The data is all
+    /// [`signature_field_name`](gixobj_line::headers::signature_field_name) of `hash_kind`. The data is all
     /// bytes except that header. Lines after it aren't decoded. Returns `None` if all lines are valid, and
     /// none is such a header.
     ///

@@ -8,12 +8,12 @@ ghost use Rattle.gixobj_hash.specs.declared.decode.Error as decode;
 ghost use Rattle.gixobj_hash.specs.declared.hash.kind.Kind.{Kind};
 ghost use Rattle.gixobj_hash.specs.declared.hash.object_id.ObjectId.{ObjectId};
 ghost use Rattle.gixobj_ref_iter.specs.TagReaders.{AreTokensOfTag, EndsAfterItsName, IsAfterName};
-ghost use Rattle.gixobj_tokens.specs.TagTokens.{IsTokenOfTagger, BeginsWithTagToken, TagTokenView, tag_token_view};
+ghost use Rattle.gixobj_line.specs.TagTokens.{IsTokenOfTagger, BeginsWithTagToken, TagTokenView, tag_token_view};
 ghost use Rattle.gixobj_ref_iter.specs.TagTokenSteps.{DecodesToTagTokens, FindsTagger, NextIdOfTag, NextTagToken, HasConsumedTagTokens, IsAtStartOfTag, YieldsNoTagger, YieldsTagTokens, token_of_tagger};
-ghost use Rattle.gixobj_tokens.specs.declared.tag.State.{State};
-ghost use Rattle.gixobj_tokens.specs.declared.tag.State.TheVariants as state;
+ghost use Rattle.gixobj_line.specs.declared.tokens.State.{State};
+ghost use Rattle.gixobj_line.specs.declared.tokens.State.TheVariants as state;
 ghost use Rattle.gixobj_ref_iter.specs.declared.tag.TagRefIter.{TagRefIter};
-ghost use Rattle.gixobj_tokens.specs.declared.tag.Token.{Token};
+ghost use Rattle.gixobj_line.specs.declared.tokens.Token.{Token};
 ghost use Rattle.gixobj_tag.specs.TagFormat.{DecodesToTag, TagLines};
 
 /// In each state bytes begin with at most one token, and have at most one run of tokens, with one ending.

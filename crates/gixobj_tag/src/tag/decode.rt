@@ -13,7 +13,7 @@ use gixobj_fields::parse::{header_id, header_kind};
 use gixobj_hash::decode::Error;
 use gixobj_hash::hash::Kind;
 use gixobj_line::tags::{TaggerLine, name, tagger};
-use gixobj_tokens::bodies::body;
+use gixobj_line::bodies::body;
 
 impl<'a> TagRef<'a> {
     /// Decodes a tag whose target has an id of this kind (gitdatamodel, "tag objects"). Allocates nothing.

@@ -24,7 +24,7 @@ use gixobj_encode::encode::{self, size_plus_field, size_plus_id, trusted_header_
 use gixobj_hash::Kind;
 use gixobj_hash::hash::ObjectId;
 use gixobj_streams::streams::Sink;
-use gixobj_tokens::bodies::are_newlines;
+use gixobj_line::bodies::are_newlines;
 use std::alloc::Global;
 use std::io;
 

@@ -1,6 +1,6 @@
 use Rattle.std.proofs.Common.{rules}
 use Rattle.gixobj_ref_iter.proofs.TagTokens.{remaining_measure_lt}
-use Rattle.gixobj_tokens.specs.TagTokens.{tag_token_view}
+use Rattle.gixobj_line.specs.TagTokens.{tag_token_view}
 use Rattle.gixobj_ref_iter.proofs.tag.TagRefIterIterator.next.Goals as goal
 
 pub returns-in-Some-clause-goes : goal.returns-in-Some-clause-goes

@@ -1,3 +1,0 @@
-mod Searching
-pub mod TagBodies
-mod TaggerTokens

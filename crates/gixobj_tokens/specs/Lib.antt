@@ -1,5 +1,0 @@
-pub mod CommitHeaders
-pub mod CommitSignatures
-pub mod TagBodies
-pub mod TagSignatures
-pub mod TagTokens
