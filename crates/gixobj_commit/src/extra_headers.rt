@@ -12,10 +12,10 @@ ghost use Rattle.gixobj_commit.specs.Mergetags.{IsTagOf, mergetag_kind, mergetag
 use bstr::{BStr, BString};
 use gixobj_hash::decode::Error;
 use gixobj_hash::hash::Kind;
-use gixobj_tag::TagRef;
 pub use gixobj_line::headers::{
     SIGNATURE_FIELD_NAME, SIGNATURE_FIELD_NAME_SHA256, signature_field_name,
 };
+use gixobj_tag::TagRef;
 use std::borrow::CowSlice;
 
 /// The extra headers of a commit, searched by name. [`crate::CommitRef::extra_headers`] and

@@ -8,8 +8,8 @@ ghost use Rattle.gixobj_line.specs.CommitSignatures.{HasNoSignature, HasCommitSi
 use super::CommitRefIter;
 use gixobj_hash::decode::Error;
 use gixobj_hash::hash::Kind;
-use gixobj_signature::signature::SignedData;
 use gixobj_line::headers::{FoundHeader, find_signature};
+use gixobj_signature::signature::SignedData;
 use std::alloc::Global;
 use std::borrow::CowSlice;
 

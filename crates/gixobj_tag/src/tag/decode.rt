@@ -12,8 +12,8 @@ use bstr::BStr;
 use gixobj_fields::parse::{header_id, header_kind};
 use gixobj_hash::decode::Error;
 use gixobj_hash::hash::Kind;
-use gixobj_line::tags::{TaggerLine, name, tagger};
 use gixobj_line::bodies::body;
+use gixobj_line::tags::{TaggerLine, name, tagger};
 
 impl<'a> TagRef<'a> {
     /// Decodes a tag whose target has an id of this kind (gitdatamodel, "tag objects"). Allocates nothing.

@@ -23,8 +23,8 @@ use gixobj_encode::WriteTo;
 use gixobj_encode::encode::{self, size_plus_field, size_plus_id, trusted_header_id};
 use gixobj_hash::Kind;
 use gixobj_hash::hash::ObjectId;
-use gixobj_streams::streams::Sink;
 use gixobj_line::bodies::are_newlines;
+use gixobj_streams::streams::Sink;
 use std::alloc::Global;
 use std::io;
 

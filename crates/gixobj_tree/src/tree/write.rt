@@ -15,9 +15,9 @@ ghost use Rattle.gixobj_streams.specs.Writing.{AddsSize, IsWritingError, LacksRo
 
 use super::{Entry, EntryMode, EntryRef, Tree};
 use bstr::BString;
-use gixobj_entries::{encode_kind, encoded_len};
 use gixobj_encode::WriteTo;
 use gixobj_encode::encode::Error;
+use gixobj_entries::{encode_kind, encoded_len};
 use gixobj_hash::Kind;
 use gixobj_hash::hash::{self, ObjectId, oid};
 use gixobj_hash::split::has_byte;
