@@ -7,6 +7,7 @@ pub use Rattle.gixobj_codec.specs.OneMarker
 pub use Rattle.gixobj_codec.specs.ReceivedSignatures
 pub use Rattle.gixobj_codec.specs.SameSignatures
 pub use Rattle.gixobj_codec.specs.SignedEncodings
+pub use Rattle.gixobj_commands.specs.declared as commands
 pub use Rattle.gixobj_commit.specs.CommitOwned
 pub use Rattle.gixobj_commit.specs.CommitSigning
 pub use Rattle.gixobj_commit.specs.CommitViews

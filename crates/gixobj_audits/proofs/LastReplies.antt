@@ -7,9 +7,9 @@ use Rattle.gix_object.specs.Commands.{accepted_steps, written_at, written_by}
 use Rattle.gix_object.specs.Replies.{Answers, IsReply, IsRun}
 use Rattle.gix_object.specs.State.{State}
 use Rattle.gix_object.specs.Stores.{StoreModel}
-use Rattle.gix_object.specs.editor.command.Command.{Command}
-use Rattle.gix_object.specs.editor.command.Command.TheVariants as command
-use Rattle.gix_object.specs.editor.command.Edit.TheVariants as edit
+use Rattle.gix_object.specs.commands.command.Command.{Command}
+use Rattle.gix_object.specs.commands.command.Command.TheVariants as command
+use Rattle.gix_object.specs.commands.command.Edit.TheVariants as edit
 use Rattle.gix_object.specs.editor.editor.error.Error.{Error}
 use Rattle.gix_object.specs.editor.reply.EditReply.{EditReply}
 use Rattle.gix_object.specs.editor.reply.EditReply.TheVariants as edit_reply

@@ -16,9 +16,9 @@ use Rattle.gix_object.specs.State.{EditorFiles, State, new_state, open_bases, op
 use Rattle.gix_object.specs.Stores.{Objects, StoreModel}
 use Rattle.gix_object.specs.Tables.{AgreesWithPairs, AgreesWithStore}
 use Rattle.gix_object.specs.directories.write.Written.{Written}
-use Rattle.gix_object.specs.editor.command.Command.{Command}
-use Rattle.gix_object.specs.editor.command.Command.TheVariants as command
-use Rattle.gix_object.specs.editor.command.Edit.TheVariants as edit
+use Rattle.gix_object.specs.commands.command.Command.{Command}
+use Rattle.gix_object.specs.commands.command.Command.TheVariants as command
+use Rattle.gix_object.specs.commands.command.Edit.TheVariants as edit
 use Rattle.gix_object.specs.editor.reply.EditReply.{EditReply}
 use Rattle.gix_object.specs.editor.reply.EditReply.TheVariants as edit_reply
 use Rattle.gix_object.specs.editor.reply.Reply.{Reply}

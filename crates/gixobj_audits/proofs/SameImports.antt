@@ -21,8 +21,8 @@ use Rattle.gix_object.specs.TreeEncoding.{IsDigestResult, encode_tree}
 use Rattle.gix_object.specs.Upserts.{directory_of}
 use Rattle.gix_object.specs.Removals.{IsRemovedUpTo}
 use Rattle.gix_object.specs.directories.write.Written.{Written}
-use Rattle.gix_object.specs.editor.command.Edit.{Edit}
-use Rattle.gix_object.specs.editor.command.Edit.TheVariants as edit
+use Rattle.gix_object.specs.commands.command.Edit.{Edit}
+use Rattle.gix_object.specs.commands.command.Edit.TheVariants as edit
 use Rattle.gix_object.specs.editor.reply.EditReply.TheVariants as reply
 use Rattle.gix_object.specs.hash.hash.kind.Kind as hash
 use Rattle.gix_object.specs.hash.hash.object_id.ObjectId.{ObjectId}

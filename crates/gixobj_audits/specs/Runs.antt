@@ -11,9 +11,9 @@ use Rattle.gix_object.specs.RunTables.{AgreesWithRun}
 use Rattle.gix_object.specs.State.{EditorFiles, State, new_state, open_bases, open_dirs, root_alone}
 use Rattle.gix_object.specs.Stores.{StoreModel}
 use Rattle.gix_object.specs.directories.write.Written.{Written}
-use Rattle.gix_object.specs.editor.command.Command.{Command}
-use Rattle.gix_object.specs.editor.command.Command.TheVariants as command
-use Rattle.gix_object.specs.editor.command.Edit.TheVariants as edit
+use Rattle.gix_object.specs.commands.command.Command.{Command}
+use Rattle.gix_object.specs.commands.command.Command.TheVariants as command
+use Rattle.gix_object.specs.commands.command.Edit.TheVariants as edit
 use Rattle.gix_object.specs.editor.reply.EditReply.{EditReply}
 use Rattle.gix_object.specs.editor.reply.EditReply.TheVariants as edit_reply
 use Rattle.gix_object.specs.editor.reply.Reply.{Reply}

@@ -17,8 +17,8 @@ use Rattle.gix_object.specs.State.{DirMap, EditorFiles, State, open_bases, open_
 use Rattle.gix_object.specs.Stores.{Objects, StoreModel}
 use Rattle.gix_object.specs.Tables.{AgreesWithPairs}
 use Rattle.gix_object.specs.directories.write.Written.{Written}
-use Rattle.gix_object.specs.editor.command.Edit.{Edit}
-use Rattle.gix_object.specs.editor.command.Edit.TheVariants as edit
+use Rattle.gix_object.specs.commands.command.Edit.{Edit}
+use Rattle.gix_object.specs.commands.command.Edit.TheVariants as edit
 use Rattle.gix_object.specs.editor.reply.EditReply.{EditReply}
 use Rattle.gix_object.specs.editor.reply.EditReply.TheVariants as edit_reply
 use Rattle.gixobj_callers.specs.Imports.{AreEditsDone, Decides, HasWriteReply, import_steps}

@@ -7,9 +7,9 @@ use Rattle.gix_object.specs.Stores.{StoreModel}
 use Rattle.gix_object.specs.Commands.{at_root}
 use Rattle.gix_object.specs.Replies.{Answers, IsEditReply, IsRun}
 use Rattle.gix_object.specs.State.{State}
-use Rattle.gix_object.specs.editor.command.Command.{Command}
-use Rattle.gix_object.specs.editor.command.Edit.{Edit}
-use Rattle.gix_object.specs.editor.command.Edit.TheVariants as edit
+use Rattle.gix_object.specs.commands.command.Command.{Command}
+use Rattle.gix_object.specs.commands.command.Edit.{Edit}
+use Rattle.gix_object.specs.commands.command.Edit.TheVariants as edit
 use Rattle.gix_object.specs.editor.reply.EditReply.{EditReply}
 use Rattle.gix_object.specs.editor.reply.EditReply.TheVariants as edit_reply
 use Rattle.gix_object.specs.editor.reply.Reply.{Reply}

@@ -9,10 +9,10 @@ use Rattle.gix_object.specs.Edited.{steps_if_done}
 use Rattle.gix_object.specs.History.{Step}
 use Rattle.gix_object.specs.Replies.{Answers, AreEditReplies, IsEditReply, IsRun}
 use Rattle.gix_object.specs.State.{State}
-use Rattle.gix_object.specs.editor.command.Command.{Command}
-use Rattle.gix_object.specs.editor.command.Command.TheVariants as command
-use Rattle.gix_object.specs.editor.command.Edit.{Edit}
-use Rattle.gix_object.specs.editor.command.Edit.TheVariants as edit
+use Rattle.gix_object.specs.commands.command.Command.{Command}
+use Rattle.gix_object.specs.commands.command.Command.TheVariants as command
+use Rattle.gix_object.specs.commands.command.Edit.{Edit}
+use Rattle.gix_object.specs.commands.command.Edit.TheVariants as edit
 use Rattle.gix_object.specs.editor.editor.error.Error.{Error}
 use Rattle.gix_object.specs.editor.reply.EditReply.{EditReply}
 use Rattle.gix_object.specs.editor.reply.EditReply.TheVariants as edit_reply

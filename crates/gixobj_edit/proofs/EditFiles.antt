@@ -13,8 +13,8 @@ use Rattle.gixobj_edit.proofs.EditRuns.{IsDone, ends_in_write, lengths_before_la
 use Rattle.gixobj_editor.specs.Commands.{written_at, written_by}
 use Rattle.gixobj_editor.specs.Replies.{IsRun}
 use Rattle.gixobj_editor.specs.RunTables.{AgreesWithRun}
-use Rattle.gixobj_editor.specs.Views.{command_view}
-use Rattle.gixobj_editor.specs.declared.command.Command.{Command}
+use Rattle.gixobj_commands.specs.Views.{command_view}
+use Rattle.gixobj_commands.specs.declared.command.Command.{Command}
 use Rattle.gixobj_editor.specs.declared.reply.EditReply.TheVariants as edit_reply
 use Rattle.gixobj_editor.specs.declared.reply.Reply.{Reply}
 use Rattle.gixobj_editor.specs.declared.reply.Reply.TheVariants as reply

@@ -12,11 +12,11 @@ use Rattle.gixobj_edit.specs.declared.failure.Failure.{Failure}
 use Rattle.gixobj_editor.specs.Commands.{Location, accepted_steps, at_cursor, at_root, emitted_pairs, pairs_of, pairs_of_edit, steps_of, steps_of_edit, steps_of_edits}
 use Rattle.gixobj_editor.specs.Cursors.{cursor_path}
 use Rattle.gixobj_editor.specs.Replies.{Answers, AreEditReplies, IsEditReply, IsReply, IsRun}
-use Rattle.gixobj_editor.specs.Views.{command_view, edit_view}
-use Rattle.gixobj_editor.specs.declared.command.Command.{Command}
-use Rattle.gixobj_editor.specs.declared.command.Command.TheVariants as command
-use Rattle.gixobj_editor.specs.declared.command.Edit.{Edit}
-use Rattle.gixobj_editor.specs.declared.command.Edit.TheVariants as edit
+use Rattle.gixobj_commands.specs.Views.{command_view, edit_view}
+use Rattle.gixobj_commands.specs.declared.command.Command.{Command}
+use Rattle.gixobj_commands.specs.declared.command.Command.TheVariants as command
+use Rattle.gixobj_commands.specs.declared.command.Edit.{Edit}
+use Rattle.gixobj_commands.specs.declared.command.Edit.TheVariants as edit
 use Rattle.gixobj_editor.specs.declared.reply.EditReply.{EditReply}
 use Rattle.gixobj_editor.specs.declared.reply.EditReply.TheVariants as edit_reply
 use Rattle.gixobj_editor.specs.declared.reply.Reply.{Reply}

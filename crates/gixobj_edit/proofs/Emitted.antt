@@ -17,7 +17,7 @@ use Rattle.gixobj_edit.specs.declared.failure.Failure.{Failure}
 use Rattle.gixobj_edit.proofs.EditRuns.{IsDone}
 use Rattle.gixobj_editor.specs.Commands.{emitted_pairs}
 use Rattle.gixobj_editor.specs.Replies.{IsRun}
-use Rattle.gixobj_editor.specs.declared.command.Command.{Command}
+use Rattle.gixobj_commands.specs.declared.command.Command.{Command}
 use Rattle.gixobj_editor.specs.declared.reply.EditReply.TheVariants as edit_reply
 use Rattle.gixobj_editor.specs.declared.reply.Reply.{Reply}
 use Rattle.gixobj_editor.specs.declared.reply.Reply.TheVariants as reply

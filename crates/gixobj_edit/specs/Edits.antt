@@ -14,10 +14,10 @@ use Rattle.gixobj_editor.specs.Commands.{Location, accepted_steps, at_cursor, at
 use Rattle.gixobj_editor.specs.Cursors.{cursor_path}
 use Rattle.gixobj_editor.specs.Replies.{IsRun}
 use Rattle.gixobj_editor.specs.RunTables.{AgreesWithRun}
-use Rattle.gixobj_editor.specs.Views.{CommandView, EditView, command_view, edits_at, one_edit, remove, remove_leaf, set_root, upsert, write}
-use Rattle.gixobj_editor.specs.declared.command.Command.{Command}
-use Rattle.gixobj_editor.specs.declared.command.Command.TheVariants as command
-use Rattle.gixobj_editor.specs.declared.command.Edit.TheVariants as edit
+use Rattle.gixobj_commands.specs.Views.{CommandView, EditView, command_view, edits_at, one_edit, remove, remove_leaf, set_root, upsert, write}
+use Rattle.gixobj_commands.specs.declared.command.Command.{Command}
+use Rattle.gixobj_commands.specs.declared.command.Command.TheVariants as command
+use Rattle.gixobj_commands.specs.declared.command.Edit.TheVariants as edit
 use Rattle.gixobj_editor.specs.declared.reply.EditReply.TheVariants as edit_reply
 use Rattle.gixobj_editor.specs.declared.reply.Reply.{Reply}
 use Rattle.gixobj_editor.specs.declared.reply.Reply.TheVariants as reply
@@ -35,8 +35,8 @@ use Rattle.gixobj_keep.specs.Memory.{memory_objects}
 use Rattle.gixobj_keep.specs.declared.memory.Memory.{Memory}
 use Rattle.gixobj_entries.specs.Mode.{mode_of_kind}
 use Rattle.gixobj_script.specs.Edits.{IsScriptRunError, memory_model}
-use Rattle.gixobj_script.specs.Scripts.{IsFirstBad, IsScript}
-use Rattle.gixobj_script.specs.declared.script.ScriptError.TheVariants as parsing
+use Rattle.gixobj_commands.specs.Scripts.{IsFirstBad, IsScript}
+use Rattle.gixobj_commands.specs.declared.script.ScriptError.TheVariants as parsing
 use Rattle.gixobj_entries.specs.Entries.{EntryView}
 use Rattle.gixobj_tree.specs.TreeEncoding.{IsDigestResult, IsEncodableTree}
 

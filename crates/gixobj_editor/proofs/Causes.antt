@@ -8,8 +8,8 @@ use Rattle.gixobj_editor.specs.Causes.{HasCausesAt, HasKeepCause, HasReplyCauses
 use Rattle.gixobj_editor.specs.Commands.{Location, at_cursor}
 use Rattle.gixobj_editor.specs.Cursors.{IsEnsured}
 use Rattle.gixobj_editor.specs.Replies.{Answers, IsEditReply, IsReply, reply_to}
-use Rattle.gixobj_editor.specs.declared.command.Command.{Command}
-use Rattle.gixobj_editor.specs.declared.command.Edit.{Edit}
+use Rattle.gixobj_commands.specs.declared.command.Command.{Command}
+use Rattle.gixobj_commands.specs.declared.command.Edit.{Edit}
 use Rattle.gixobj_editor.specs.declared.editor.error.Error.{Error}
 use Rattle.gixobj_editor.specs.declared.reply.EditReply.{EditReply}
 use Rattle.gixobj_editor.specs.declared.reply.Reply.{Reply}

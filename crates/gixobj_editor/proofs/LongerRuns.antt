@@ -1,7 +1,7 @@
 -- Runs and lists of edits that are longer by one.
 use Rattle.std.proofs.Common.{◌≡◌, ◌∷◌, [], ◌++◌, List, append_assoc, append-nil, arith, refl, length}
-use Rattle.gixobj_editor.specs.declared.command.Command.{Command}
-use Rattle.gixobj_editor.specs.declared.command.Edit.{Edit}
+use Rattle.gixobj_commands.specs.declared.command.Command.{Command}
+use Rattle.gixobj_commands.specs.declared.command.Edit.{Edit}
 use Rattle.gixobj_files.specs.State.{State}
 use Rattle.gixobj_editor.specs.Commands.{Location}
 use Rattle.gixobj_editor.specs.Replies.{Answers, AreEditReplies, IsEditReply, IsReply, IsRun}

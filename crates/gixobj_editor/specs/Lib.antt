@@ -7,8 +7,8 @@ pub mod Removals
 pub mod Replies
 pub mod RunTables
 pub mod Upserts
-pub mod Views
 pub mod Writes
+pub use Rattle.gixobj_commands.specs.Views
 pub use Rattle.gixobj_directories.specs.Calls
 pub use Rattle.gixobj_directories.specs.Openings
 pub use Rattle.gixobj_files.specs.Files

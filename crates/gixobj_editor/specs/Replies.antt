@@ -2,10 +2,10 @@
 use Rattle.std.specs.Prelude.{◌≡◌, ◌⊎◌, ℕ, List, [], ◌∷◌, All, Err, Ok, Result}
 use denote.Ref.{Bor}
 use Rattle.gixobj_directories.specs.Openings.{OfTrees}
-use Rattle.gixobj_editor.specs.declared.command.Command.{Command}
-use Rattle.gixobj_editor.specs.declared.command.Command.TheVariants as command
-use Rattle.gixobj_editor.specs.declared.command.Edit.{Edit}
-use Rattle.gixobj_editor.specs.declared.command.Edit.TheVariants as edit
+use Rattle.gixobj_commands.specs.declared.command.Command.{Command}
+use Rattle.gixobj_commands.specs.declared.command.Command.TheVariants as command
+use Rattle.gixobj_commands.specs.declared.command.Edit.{Edit}
+use Rattle.gixobj_commands.specs.declared.command.Edit.TheVariants as edit
 use Rattle.gixobj_store.specs.Stores.{StoreModel, Objects}
 use Rattle.gixobj_directories.specs.Calls.{IsStorable, names_of}
 use Rattle.gixobj_directories.specs.WriteErrors.{IsWriteError}

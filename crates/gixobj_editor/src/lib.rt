@@ -4,13 +4,12 @@
 #![tactic(auto)]
 
 mod by_cursor;
-pub mod command;
 pub mod editor;
 pub mod edits;
 pub mod laws;
 pub mod reply;
 mod running;
 
-pub use command::{Command, Edit};
+pub use gixobj_commands::{Command, Edit};
 pub use reply::{EditReply, Reply};
 pub use running::{run, run_command};

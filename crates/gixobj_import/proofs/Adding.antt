@@ -2,7 +2,7 @@
 -- `import_all`.
 use Rattle.std.proofs.Common.{◌≡◌, ◌∙◌, ⊎_elim, List, [], ◌∷◌, Option, ap, subst, sym, take}
 use Rattle.std.proofs.lemmas.List.Elements.{All-take}
-use Rattle.gixobj_editor.specs.declared.command.Edit.{Edit}
+use Rattle.gixobj_commands.specs.declared.command.Edit.{Edit}
 use Rattle.gixobj_store.specs.Stores.{StoreModel, Objects}
 use Rattle.gixobj_directories.specs.declared.write.Written.{Written}
 use Rattle.gixobj_files.specs.State.{State}

@@ -4,7 +4,7 @@ use Rattle.std.proofs.Common.{◌≡◌, ◌∙◌, ⊎_elim, List, [], ◌∷�
 use Rattle.std.specs.Prelude.{IfErr, slice_get}
 use Rattle.gixobj_directories.specs.declared.write.WriteError.TheVariants as write
 use Rattle.gixobj_directories.specs.declared.write.Written.{Written}
-use Rattle.gixobj_editor.specs.declared.command.Edit.{Edit}
+use Rattle.gixobj_commands.specs.declared.command.Edit.{Edit}
 use Rattle.gixobj_streams.specs.declared.encode.Error as encode
 use Rattle.gixobj_files.specs.State.{State}
 use Rattle.gixobj_hash.specs.declared.hash.kind.Kind as hash

@@ -4,8 +4,8 @@ use Rattle.std.proofs.Common.{◌≡◌, ◌∙◌, ◌<◌, ◌≤◌, ◌+◌,
 use Rattle.std.proofs.lemmas.List.{take_all, take_more}
 use Rattle.std.specs.List.{flat_map}
 use Rattle.std.specs.Prelude.{Contains, slice_get}
-use Rattle.gixobj_editor.specs.declared.command.Edit.{Edit}
-use Rattle.gixobj_editor.specs.declared.command.Edit.TheVariants as edit
+use Rattle.gixobj_commands.specs.declared.command.Edit.{Edit}
+use Rattle.gixobj_commands.specs.declared.command.Edit.TheVariants as edit
 use Rattle.gixobj_store.specs.Stores.{StoreModel, Objects}
 use Rattle.gixobj_directories.specs.Openings.{AreTreesOf}
 use Rattle.gixobj_directories.specs.declared.write.Written.{Written}

@@ -1,6 +1,6 @@
 -- The objects of a store after steps are imported, and after a step fails: for the contract of `import_all`.
 use Rattle.std.proofs.Common.{◌≡◌, ◌∙◌, ⊎_elim, inl, inr, List, [], ◌∷◌, Option, Some, ap, length, take}
-use Rattle.gixobj_editor.specs.declared.command.Edit.{Edit}
+use Rattle.gixobj_commands.specs.declared.command.Edit.{Edit}
 use Rattle.gixobj_store.specs.Stores.{StoreModel, Objects}
 use Rattle.gixobj_files.specs.State.{State}
 use Rattle.gixobj_hash.specs.declared.hash.kind.Kind as hash

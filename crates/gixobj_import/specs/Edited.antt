@@ -1,7 +1,7 @@
 -- The edits of a step, which are done one after the other, and the write after them.
 use Rattle.std.specs.Prelude.{◌≡◌, ℕ, List, [], ◌∷◌, Some, slice_get, take}
-use Rattle.gixobj_editor.specs.declared.command.Edit.{Edit}
-use Rattle.gixobj_editor.specs.declared.command.Edit.TheVariants as edit
+use Rattle.gixobj_commands.specs.declared.command.Edit.{Edit}
+use Rattle.gixobj_commands.specs.declared.command.Edit.TheVariants as edit
 use Rattle.gixobj_store.specs.Stores.{StoreModel}
 use Rattle.gixobj_directories.specs.Calls.{names_of}
 use Rattle.gixobj_editor.specs.declared.editor.error.Error.{Error}

@@ -5,7 +5,7 @@ use Rattle.std.specs.List.{FoldsTo}
 use denote.Ref.{Bor}
 use Rattle.gixobj_directories.specs.Calls.{answered}
 use Rattle.gixobj_directories.specs.WriteErrors.{IsWriteError}
-use Rattle.gixobj_editor.specs.declared.command.Edit.{Edit}
+use Rattle.gixobj_commands.specs.declared.command.Edit.{Edit}
 use Rattle.gixobj_streams.specs.declared.encode.Error as encode
 use Rattle.gixobj_files.specs.Emission.{EmitsSome}
 use Rattle.gixobj_files.specs.State.{State, open_bases, open_dirs}

@@ -1,8 +1,8 @@
 -- The results of a step of an importer, and of a list of steps.
 use Rattle.std.specs.Prelude.{◌≡◌, ◌⊎◌, ℕ, true, false, All, Contains, List, [], ◌∷◌, Option, Some, length, slice_get, take, ⊤}
 use Rattle.gixobj_actor.specs.ActorWriting.{IsLegal, encode_owned_actor}
-use Rattle.gixobj_editor.specs.declared.command.Edit.{Edit}
-use Rattle.gixobj_editor.specs.declared.command.Edit.TheVariants as edit
+use Rattle.gixobj_commands.specs.declared.command.Edit.{Edit}
+use Rattle.gixobj_commands.specs.declared.command.Edit.TheVariants as edit
 use Rattle.gixobj_directories.specs.declared.write.Written.{Written}
 use Rattle.gixobj_streams.specs.declared.encode.Error.TheVariants.{IllegalActor}
 use Rattle.gixobj_files.specs.State.{State, with_store}

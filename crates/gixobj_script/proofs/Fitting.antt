@@ -3,7 +3,7 @@
 use Rattle.std.proofs.Common.{◌≡◌, ◌∙◌, All, ℕ, List, [], ◌∷◌, None, Some, ap, refl, subst, sym}
 use Rattle.std.proofs.lemmas.List.Elements.{All-head, All-tail, All-weaker}
 use Rattle.std.specs.FinMap as finite
-use Rattle.gixobj_editor.specs.declared.command.Command.{Command}
+use Rattle.gixobj_commands.specs.declared.command.Command.{Command}
 use Rattle.gixobj_store.specs.Stores.{Objects, StoredObject, named}
 use Rattle.gixobj_directories.specs.Openings.{AreTreesOf}
 use Rattle.gixobj_streams.specs.declared.encode.Error.{Error}

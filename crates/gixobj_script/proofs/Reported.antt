@@ -13,7 +13,7 @@ use Rattle.gixobj_keep.specs.declared.memory.Memory.{Memory}
 use Rattle.gixobj_entries.specs.Entries.{EntryView}
 use Rattle.gixobj_tree.specs.TreeEncoding.{IsDigestResult}
 use Rattle.gixobj_script.specs.Edits.{IsEdit, IsNewEditor, IsReported, memory_model}
-use Rattle.gixobj_script.specs.declared.script.ScriptError.{ScriptError}
+use Rattle.gixobj_commands.specs.declared.script.ScriptError.{ScriptError}
 use Rattle.gixobj_script.proofs.WiderRelations.{run_wider}
 
 -- the report of a run is that of `edit` if the closure returns digests only

@@ -2,8 +2,8 @@
 use Rattle.std.proofs.Common.{◌≡◌, ◌⊎◌, ◌∷◌, [], ◌++◌, List, OnErr, Option, Result, Some, inr, Vec, ap, append-nil, append_assoc, arith, length, map, refl, sym, ◌∙◌, ℕ}
 use Rattle.std.specs.declared.alloc.Global.{Global}
 use Rattle.gixobj_editor.specs.Replies.{Answers, IsRun}
-use Rattle.gixobj_editor.specs.Views.{command_view}
-use Rattle.gixobj_editor.specs.declared.command.Command.{Command}
+use Rattle.gixobj_commands.specs.Views.{command_view}
+use Rattle.gixobj_commands.specs.declared.command.Command.{Command}
 use Rattle.gixobj_editor.specs.declared.reply.Reply.{Reply}
 use Rattle.gixobj_files.proofs.WrittenTrees.{on_err_of}
 use Rattle.gixobj_files.specs.State.{State}
@@ -11,8 +11,8 @@ use Rattle.gixobj_hash.specs.declared.hash.kind.Kind as hash
 use Rattle.gixobj_store.specs.Stores.{StoreModel}
 use Rattle.gixobj_script.specs.Edits.{IsCommandReported, IsReported, WasRun}
 use Rattle.gixobj_script.specs.Reporting.{AreLinesOf, lookups_line, report_lines_of}
-use Rattle.gixobj_script.specs.Scripts.{IsScript}
-use Rattle.gixobj_script.specs.declared.script.ScriptError.{ScriptError}
+use Rattle.gixobj_commands.specs.Scripts.{IsScript}
+use Rattle.gixobj_commands.specs.declared.script.ScriptError.{ScriptError}
 
 nil_of_len_zero : {X : Type 0} (xs : List X) → length xs ≡ 0 → xs ≡ []
 nil_of_len_zero [] e = refl

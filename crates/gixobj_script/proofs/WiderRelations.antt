@@ -1,10 +1,10 @@
 -- A run by a relation of answers is a run by each wider relation; used for the report of `edit`.
 use Rattle.std.proofs.Common.{List, [], ◌∷◌, Err, Ok, Result}
 use Rattle.std.specs.List.{FoldsTo}
-use Rattle.gixobj_editor.specs.declared.command.Command.{Command}
-use Rattle.gixobj_editor.specs.declared.command.Command.TheVariants as command
-use Rattle.gixobj_editor.specs.declared.command.Edit.{Edit}
-use Rattle.gixobj_editor.specs.declared.command.Edit.TheVariants as edit
+use Rattle.gixobj_commands.specs.declared.command.Command.{Command}
+use Rattle.gixobj_commands.specs.declared.command.Command.TheVariants as command
+use Rattle.gixobj_commands.specs.declared.command.Edit.{Edit}
+use Rattle.gixobj_commands.specs.declared.command.Edit.TheVariants as edit
 use Rattle.gixobj_store.specs.Stores.{StoreModel, Objects}
 use Rattle.gixobj_directories.specs.Calls.{names_of}
 use Rattle.gixobj_directories.specs.WriteErrors.{IsWriteError}

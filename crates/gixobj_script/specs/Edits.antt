@@ -3,8 +3,8 @@ use Rattle.std.specs.Prelude.{◌≡◌, ◌⊎◌, ◌∷◌, ◌++◌, ℕ, fa
 use Rattle.std.specs.declared.alloc.Global.{Global}
 use Rattle.std.specs.declared.vec.Vec.{Vec}
 use Rattle.std.specs.FinMap as finite
-use Rattle.gixobj_editor.specs.Views.{CommandView, command_view}
-use Rattle.gixobj_editor.specs.declared.command.Command.{Command}
+use Rattle.gixobj_commands.specs.Views.{CommandView, command_view}
+use Rattle.gixobj_commands.specs.declared.command.Command.{Command}
 use Rattle.gixobj_store.specs.Stores.{StoreModel}
 use Rattle.gixobj_tree.specs.TreeEncoding.{IsDigestResult}
 use Rattle.gixobj_script.specs.Reporting.{AreLinesOf, report_lines_of}
@@ -12,9 +12,9 @@ use Rattle.gixobj_files.specs.State.{State, new_state}
 use Rattle.gixobj_hash.specs.declared.hash.kind.Kind as hash
 use Rattle.gixobj_editor.specs.Replies.{Answers, IsReply, IsRun}
 use Rattle.gixobj_editor.specs.declared.reply.Reply.{Reply}
-use Rattle.gixobj_script.specs.Scripts.{IsFirstBad, IsScript, IsScriptParseError}
-use Rattle.gixobj_script.specs.declared.script.ScriptError.{ScriptError}
-use Rattle.gixobj_script.specs.declared.script.ScriptError.TheVariants as script
+use Rattle.gixobj_commands.specs.Scripts.{IsFirstBad, IsScript, IsScriptParseError}
+use Rattle.gixobj_commands.specs.declared.script.ScriptError.{ScriptError}
+use Rattle.gixobj_commands.specs.declared.script.ScriptError.TheVariants as script
 use Rattle.gixobj_keep.specs.Memory.{memory_objects}
 use Rattle.gixobj_keep.specs.declared.memory.Memory.{Memory}
 

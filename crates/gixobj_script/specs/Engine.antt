@@ -5,7 +5,7 @@ use Rattle.gixobj_script.specs.Faults.{fault_line, fault_status}
 use Rattle.gixobj_script.specs.Arguments.{IsEditCommand}
 use Rattle.gixobj_script.specs.declared.fault.Fault.{Fault}
 use Rattle.gixobj_script.specs.declared.fault.Fault.TheVariants as fault
-use Rattle.gixobj_script.specs.declared.script.ScriptError.TheVariants as script
+use Rattle.gixobj_commands.specs.declared.script.ScriptError.TheVariants as script
 use Rattle.gixobj_streams.specs.Streams.{AppendsAll, FailsToAppend, SinkView}
 use Rattle.gixobj_hash.specs.declared.hash.kind.Kind as hash
 use Rattle.gixobj_show.specs.Engine.{ReadsAll, IsPrinted, HasWrittenNothing}

@@ -4,8 +4,8 @@ use Rattle.gixobj_script.specs.declared.fault.Fault.{Fault}
 use Rattle.gixobj_script.specs.declared.fault.Fault.TheVariants as fault
 use Rattle.gixobj_hash.specs.FieldFormat.{encode_line}
 use Rattle.gixobj_show.specs.Failure.{line_of, exit_status_of}
-use Rattle.gixobj_script.specs.declared.script.ScriptError.{ScriptError}
-use Rattle.gixobj_script.specs.declared.script.ScriptError.TheVariants as script
+use Rattle.gixobj_commands.specs.declared.script.ScriptError.{ScriptError}
+use Rattle.gixobj_commands.specs.declared.script.ScriptError.TheVariants as script
 use Rattle.gixobj_show.specs.declared.failure.Failure.TheVariants as failure
 
 -- the fault of an error of a script

@@ -2,8 +2,5 @@ pub mod Digests
 pub mod Edits
 pub mod Engine
 pub mod Faults
-pub mod Lines
-pub mod ScriptPaths
-pub mod Scripts
 pub mod Reporting
 pub mod Arguments

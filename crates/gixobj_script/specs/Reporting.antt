@@ -12,7 +12,7 @@ use Rattle.gixobj_editor.specs.declared.reply.EditReply.TheVariants as edit_repl
 use Rattle.gixobj_editor.specs.declared.reply.Reply.{Reply}
 use Rattle.gixobj_editor.specs.declared.reply.Reply.TheVariants as reply
 use Rattle.gixobj_hash.specs.Hash.{encode_id_hex}
-use Rattle.gixobj_script.specs.Lines.{keyword_and}
+use Rattle.gixobj_commands.specs.Lines.{keyword_and}
 use Rattle.gixobj_hash.specs.FieldFormat.{encode_line}
 
 -- the report of an edit that failed: the number of the error, and the path of a directory that was to be removed as a

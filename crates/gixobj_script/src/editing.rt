@@ -4,7 +4,7 @@ ghost use Rattle.std.specs.Fn.{FnReturnsAt};
 ghost use Rattle.gixobj_store.specs.Stores.{store_model};
 ghost use Rattle.gixobj_tree.specs.TreeEncoding.{IsDigestResult};
 ghost use Rattle.gixobj_script.specs.Edits.{IsCommandReported, IsEdit, IsReported, IsScriptRunError, WasRun};
-ghost use Rattle.gixobj_script.specs.declared.script.ScriptError.TheVariants.{BadLine};
+ghost use Rattle.gixobj_commands.specs.declared.script.ScriptError.TheVariants.{BadLine};
 ghost use Rattle.gixobj_editor.specs.Replies.{IsCallable};
 
 use crate::reporting::{push_lookups, with_reply};

@@ -6,11 +6,8 @@ pub mod editing;
 pub mod engine;
 pub mod fault;
 pub mod laws;
-mod line;
-mod path;
 pub mod reporting;
-pub mod script;
 
 pub use editing::{edit, edit_on};
+pub use gixobj_commands::script::{ScriptError, parse_script};
 pub use reporting::report_lines;
-pub use script::{ScriptError, parse_script};

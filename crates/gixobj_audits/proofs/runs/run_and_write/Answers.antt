@@ -6,7 +6,7 @@ use Rattle.std.specs.Prelude.{Option}
 use Rattle.gix_object.specs.Entries.{EntryView}
 use Rattle.gix_object.specs.Replies.{IsRun}
 use Rattle.gix_object.specs.Stores.{StoreModel}
-use Rattle.gix_object.specs.editor.command.Command.{Command}
+use Rattle.gix_object.specs.commands.command.Command.{Command}
 use Rattle.gix_object.specs.editor.reply.EditReply.{EditReply}
 use Rattle.gix_object.specs.editor.reply.EditReply.TheVariants as edit_reply
 use Rattle.gix_object.specs.editor.reply.Reply.{Reply}

@@ -4,7 +4,7 @@ use Rattle.gixobj_hash.specs.declared.hash.object_id.ObjectId.{ObjectId}
 use Rattle.gixobj_store.specs.Stores.{store_model}
 use Rattle.gixobj_entries.specs.Entries.{EntryView}
 use Rattle.gixobj_script.proofs.RunsSoFar.{is_reported_of_so_far, is_run_so_far_of_nothing, is_run_so_far_of_step, after_error_of_so_far}
-use Rattle.gixobj_script.specs.declared.script.ScriptError.TheVariants.{OutOfMemory}
+use Rattle.gixobj_commands.specs.declared.script.ScriptError.TheVariants.{OutOfMemory}
 use Rattle.gixobj_script.proofs.editing.edit_on.Goals as goal
 
 pub loop-command-init : goal.loop-command-init

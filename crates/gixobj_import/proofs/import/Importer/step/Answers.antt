@@ -2,8 +2,8 @@
 -- contract alone.
 use Rattle.std.proofs.Common.{ap, inl, inr, refl, subst, sym, Bool, List, Some, false, true}
 use Rattle.std.specs.Prelude.{Contains}
-use Rattle.gixobj_editor.specs.declared.command.Edit.{Edit}
-use Rattle.gixobj_editor.specs.declared.command.Edit.TheVariants as edit
+use Rattle.gixobj_commands.specs.declared.command.Edit.{Edit}
+use Rattle.gixobj_commands.specs.declared.command.Edit.TheVariants as edit
 use Rattle.gixobj_editor.specs.declared.reply.EditReply.TheVariants as reply
 use Rattle.gixobj_import.specs.Edited.{IsWriteAfter}
 use Rattle.gixobj_import.specs.StepCauses.{HasTreeCauseAfter}

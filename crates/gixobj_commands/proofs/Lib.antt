@@ -1,0 +1,3 @@
+mod EncodedLines
+mod ScriptDecoding
+mod ScriptUniqueness

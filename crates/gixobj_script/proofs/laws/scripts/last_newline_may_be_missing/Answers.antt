@@ -1,5 +1,0 @@
-use Rattle.gixobj_script.proofs.ScriptUniqueness as law
-use Rattle.gixobj_script.proofs.laws.scripts.last_newline_may_be_missing.Goals as goal
-
-pub returns : goal.returns
-returns c = law.is_script_iff_with_newline
