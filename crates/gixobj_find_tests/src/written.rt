@@ -3,8 +3,8 @@
 use crate::recording::Recorder;
 use crate::samples::{KINDS, bytes_of, id, id_by_git, id_of_bytes, is_id};
 use bstr::BString;
-use gixobj_entries::EntryKind;
 use gixobj_encode::{WriteTo, encode};
+use gixobj_entries::EntryKind;
 use gixobj_find::{Write, write};
 use gixobj_hash::Kind;
 use gixobj_hash::hash::{Kind as HashKind, ObjectId};
