@@ -1,5 +1,10 @@
+mod BlockRows
+mod BlocksRows
+mod BodyParts
 mod CommitsExtracted
+mod FilteredTrailers
 mod OwnedFields
+mod ReaderRuns
 mod ReceivedCommits
 mod ReceivedTags
 mod SameParts
@@ -7,3 +12,8 @@ mod SignaturesFound
 mod SignersPayloads
 mod TagsAgree
 mod TagsExtracted
+mod TitleRows
+mod TrailerLines
+mod TrailerRows
+mod UniqueBlocks
+mod UniqueTrailers

@@ -1,5 +1,9 @@
 //! Laws of trees, commits, tags and stores. Most functions are empty, and their contract is the law.
 
+pub use crate::messages::{
+    blocks_are_unique, message_split_is_unique, parts_append_to_body, readers_yield_all,
+    trailer_block_start_is_unique, trailer_line_decodes, trailers_are_unique,
+};
 pub use crate::received::{received_commits_are_signed, received_tags_are_signed};
 pub use crate::signed::{
     commit_payloads_are_signed, owned_commits_have_line_fields, signed_commit_has_payload,
@@ -23,9 +27,5 @@ pub use gixobj_store::laws::{
 pub use gixobj_tag::laws::{
     owned_tag_has_same_parts, tag_decode_encode_agree, tag_decodes_uniquely,
     tag_reencodes_identically,
-};
-pub use gixobj_text::laws::{
-    blocks_are_unique, message_split_is_unique, parts_append_to_body, readers_yield_all,
-    trailer_block_start_is_unique, trailer_line_decodes, trailers_are_unique,
 };
 pub use gixobj_tree::laws::{tree_decodes_uniquely, tree_reencodes_identically, tree_round_trips};

@@ -2,12 +2,13 @@
 //! stores (gitdatamodel, "trees", "commits", "tag objects"). Trees, commits and tags are decoded entirely or
 //! piece by piece.
 //!
-//! It re-exports the crates below it under the names that users know. Its own items are laws: the payload
-//! that is found in a signed object is the one that the signer got (gitformat-signature).
+//! It re-exports the crates below it under the names that users know. Its own items are laws: those of messages,
+//! and that the payload found in a signed object is the one that the signer got (gitformat-signature).
 #![tactic(auto)]
 
 pub mod commit;
 pub mod laws;
+pub mod messages;
 mod one_line;
 pub mod received;
 pub mod signed;

@@ -2,4 +2,3 @@
 #![tactic(auto)]
 
 pub mod commit;
-pub mod laws;

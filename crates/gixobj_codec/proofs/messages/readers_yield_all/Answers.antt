@@ -1,5 +1,5 @@
-use Rattle.gixobj_text.proofs.Runs.{are_blocks_from_run, remaining_filtered_of_run, remaining_trailers_of_run}
-use Rattle.gixobj_text.proofs.laws.readers_yield_all.Goals as goal
+use Rattle.gixobj_codec.proofs.ReaderRuns.{are_blocks_from_run, remaining_filtered_of_run, remaining_trailers_of_run}
+use Rattle.gixobj_codec.proofs.messages.readers_yield_all.Goals as goal
 
 pub returns-clause-blocks : goal.returns-clause-blocks
 returns-clause-blocks c = are_blocks_from_run

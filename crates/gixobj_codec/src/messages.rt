@@ -1,4 +1,5 @@
-//! Laws of messages. Each function is empty; its contract is the law.
+//! Laws of commit messages (git-commit, "DISCUSSION"; git-interpret-trailers). Each function is empty; its contract
+//! is the law.
 ghost use Rattle.std.specs.Prelude.{◌≡◌, ◌↔◌, ◌++◌, ℕ, List, Ok, Option, Some, drop, map, take};
 ghost use Rattle.std.specs.Iterator.{Drains};
 ghost use Rattle.gixobj_text.specs.MessageBlocks.{AreBlocksFrom, BlockView, joined_parts};

@@ -1,6 +1,6 @@
 use Rattle.std.proofs.Common.{take-append-drop}
-use Rattle.gixobj_text.proofs.Parts.{joined_parts_of_bytes}
-use Rattle.gixobj_text.proofs.laws.parts_append_to_body.Goals as goal
+use Rattle.gixobj_codec.proofs.BodyParts.{joined_parts_of_bytes}
+use Rattle.gixobj_codec.proofs.messages.parts_append_to_body.Goals as goal
 
 pub returns-clause-without_trailer : goal.returns-clause-without_trailer
 returns-clause-without_trailer c = take-append-drop

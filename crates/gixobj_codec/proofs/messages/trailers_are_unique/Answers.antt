@@ -1,5 +1,5 @@
-use Rattle.gixobj_text.proofs.OneAnswer.{trailer_block_unique, trailers_unique}
-use Rattle.gixobj_text.proofs.laws.trailers_are_unique.Goals as goal
+use Rattle.gixobj_codec.proofs.UniqueTrailers.{trailer_block_unique, trailers_unique}
+use Rattle.gixobj_codec.proofs.messages.trailers_are_unique.Goals as goal
 
 pub returns-clause-trailers : goal.returns-clause-trailers
 returns-clause-trailers c = trailers_unique
