@@ -2,7 +2,6 @@ mod BlockRows
 mod BlocksRows
 mod BodyParts
 mod CommitsExtracted
-mod FilteredTrailers
 mod OwnedFields
 mod ReaderRuns
 mod ReceivedCommits

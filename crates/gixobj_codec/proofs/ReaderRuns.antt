@@ -13,7 +13,7 @@ use Rattle.gixobj_text.specs.declared.commit.message.body.filters.Filter.{Filter
 use Rattle.gixobj_text.specs.declared.commit.message.body.filters.Filtered.{Filtered}
 use Rattle.gixobj_text.specs.declared.commit.message.body.trailers.TrailerRef.{TrailerRef}
 use Rattle.gixobj_text.specs.declared.commit.message.body.trailers.Trailers.{Trailers}
-use Rattle.gixobj_codec.proofs.FilteredTrailers.{filtered_of_next, filtered_of_none, filtered_of}
+use Rattle.gixobj_text.proofs.Filtering.{filtered_of_next, filtered_of_none, filtered_of}
 
 -- ---- blocks
 
