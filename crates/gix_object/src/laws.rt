@@ -29,5 +29,5 @@ pub use gixobj_files::laws::{
     consistent_pairs_have_table, list_has_table, plain_history_is_table_independent,
     single_root_is_opened, store_has_table,
 };
-pub use gixobj_formats::laws::{marker_position_is_unique, signature_format_is_unique};
 pub use gixobj_import::laws::consistent_import_has_table;
+pub use gixobj_line::laws::{marker_position_is_unique, signature_format_is_unique};

@@ -2,7 +2,10 @@ pub mod CommitsRead
 pub mod EntireCommits
 mod LineErrors
 pub mod LinesYielded
+pub mod MarkerPlaces
+mod MarkersFound
 pub mod OneLine
+mod Prefixes
 mod Searching
 mod SkippedLines
 pub mod TagBodies

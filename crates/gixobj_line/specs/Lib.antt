@@ -2,7 +2,9 @@ pub mod Commit
 pub mod CommitBuilding
 pub mod CommitHeaders
 pub mod CommitSignatures
+pub mod LineWalk
 pub mod Lines
+pub mod Markers
 pub mod TagBodies
 pub mod TagLineViews
 pub mod TagLines

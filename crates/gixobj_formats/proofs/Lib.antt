@@ -1,3 +1,0 @@
-pub mod MarkerPlaces
-mod MarkersFound
-mod Prefixes

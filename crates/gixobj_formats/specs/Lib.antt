@@ -1,2 +1,0 @@
-pub mod LineWalk
-pub mod Markers

@@ -1,5 +1,0 @@
-//! Formats of armored signatures, with their markers (gitformat-signature).
-#![tactic(auto)]
-
-pub mod laws;
-pub mod signature;
