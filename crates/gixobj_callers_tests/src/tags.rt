@@ -2,7 +2,7 @@
 ghost use Rattle.gix_object.specs.CommitViews.{commit_lines};
 ghost use Rattle.gix_object.specs.Hash.{IsIdHex};
 
-use crate::samples::{TREE as TARGET, is_copy};
+use crate::object_samples::{TREE as TARGET, is_copy};
 use bstr::BStr;
 use gix_object::hash::Kind;
 use gix_object::{CommitRef, TagRef};

@@ -1,7 +1,7 @@
 //! Releases that are signed and audited. The runner answers only calls with the expected bytes
 //! (gitformat-signature).
 
-use crate::samples::{TRUNCATED, is_copy};
+use crate::object_samples::{TRUNCATED, is_copy};
 use bstr::{BString, ByteSlice};
 use gix_object::hash::Kind as HashKind;
 use gix_object::laws::{signed_commit_has_payload, signed_tag_has_payload};

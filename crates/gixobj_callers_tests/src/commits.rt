@@ -3,7 +3,7 @@ ghost use Rattle.gix_object.specs.CommitViews.{commit_lines};
 ghost use Rattle.gix_object.specs.CommitWriting.{HasIds};
 ghost use Rattle.gix_object.specs.Hash.{IsIdHex};
 
-use crate::samples::{TREE, TRUNCATED, is_copy};
+use crate::object_samples::{TREE, TRUNCATED, is_copy};
 use bstr::BStr;
 use gix_object::CommitRef;
 use gix_object::hash::Kind;

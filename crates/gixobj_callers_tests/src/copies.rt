@@ -1,6 +1,6 @@
 //! Round trips of trees, and a loose object whose id is verified.
 
-use crate::samples::is_copy;
+use crate::object_samples::is_copy;
 use gix_object::hash::Kind;
 use gix_object::{Tree, TreeRef, decode};
 use gix_object_tests::samples::id;
