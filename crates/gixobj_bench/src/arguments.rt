@@ -3,6 +3,7 @@
 use crate::editor::Order;
 use crate::fault::Fault;
 use std::env;
+use std::env::Args;
 use std::rt::Env;
 
 /// What is measured.
@@ -29,17 +30,27 @@ pub(crate) struct Command {
 pub(crate) fn command_of_process<R: Env + AllocGlobal>(rt: &R) -> Result<Command, Fault> {
     let mut arguments = env::args(rt)?;
     let _ = arguments.next();
-    let measure = match needed(arguments.next())?.as_str() {
-        "bench" => Measure::Objects(needed(arguments.next())?),
-        "bodies" => Measure::Bodies,
-        "reports" => Measure::Reports,
-        "editor" => Measure::Editor(order_of(&needed(arguments.next())?)?),
-        _ => return Err(Fault::Usage),
-    };
-    let rounds = rounds_of(&needed(arguments.next())?)?;
+    command_of(&mut arguments)
+}
+
+/// The command that all of the arguments are. `Usage` if they are none.
+fn command_of(arguments: &mut Args) -> Result<Command, Fault> {
+    let measure = measure_of(arguments)?;
+    let rounds = rounds_of(arguments)?;
     match arguments.next() {
         None => Ok(Command { measure, rounds }),
         Some(_) => Err(Fault::Usage),
+    }
+}
+
+/// What the next arguments name. `Usage` if they name nothing that is measured.
+fn measure_of(arguments: &mut Args) -> Result<Measure, Fault> {
+    match needed(arguments.next())?.as_str() {
+        "bench" => needed(arguments.next()).map(Measure::Objects),
+        "bodies" => Ok(Measure::Bodies),
+        "reports" => Ok(Measure::Reports),
+        "editor" => order_of(arguments).map(Measure::Editor),
+        _ => Err(Fault::Usage),
     }
 }
 
@@ -51,9 +62,9 @@ fn needed(argument: Option<String>) -> Result<String, Fault> {
     }
 }
 
-/// The order of an argument.
-fn order_of(argument: &str) -> Result<Order, Fault> {
-    match argument {
+/// The order that the next argument names.
+fn order_of(arguments: &mut Args) -> Result<Order, Fault> {
+    match needed(arguments.next())?.as_str() {
         "ascending" => Ok(Order::Ascending),
         "descending" => Ok(Order::Descending),
         "scattered" => Ok(Order::Scattered),
@@ -61,9 +72,9 @@ fn order_of(argument: &str) -> Result<Order, Fault> {
     }
 }
 
-/// The number of rounds of an argument, at least one.
-fn rounds_of(argument: &str) -> Result<u32, Fault> {
-    match u32::from_str_radix(argument, 10) {
+/// The number of rounds that the next argument is, at least one.
+fn rounds_of(arguments: &mut Args) -> Result<u32, Fault> {
+    match u32::from_str_radix(&needed(arguments.next())?, 10) {
         Ok(0) | Err(_) => Err(Fault::Usage),
         Ok(rounds) => Ok(rounds),
     }

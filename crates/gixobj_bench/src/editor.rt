@@ -9,7 +9,7 @@ use gixobj_base::Tree;
 use gixobj_base::hash::Kind::Sha1;
 use gixobj_base::hash::ObjectId;
 use gixobj_base::tree::EntryKind;
-use gixobj_editor::editor::{Editor, Written};
+use gixobj_editor::editor::Editor;
 use gixobj_find::find::Never;
 pub(crate) use paths::Order;
 use paths::{Shape, paths_of};
@@ -69,18 +69,40 @@ fn measure_case<R: Clock + Print + AllocGlobal>(
     shape: Shape,
     files: u32,
 ) -> Result<(), Fault> {
+    let minimum = measure_files(rt, order, rounds, shape, files)?;
+    print_row(rt, "upserts", shape, files, minimum.upserts, &minimum)?;
+    print_row(rt, "write", shape, files, minimum.write, &minimum)
+}
+
+/// The minimum times of a case.
+fn measure_files<R: Clock + AllocGlobal>(
+    rt: &R,
+    order: Order,
+    rounds: u32,
+    shape: Shape,
+    files: u32,
+) -> Result<Round, Fault> {
     let Some(id) = ObjectId::from_hex(FILE) else {
         return Err(Fault::CallFailed);
     };
     let paths = paths_of(rt.alloc(), shape, order, files)?;
-    let mut minimum = measure_round(rt, &paths, id)?;
+    measure_rounds(rt, &paths, id, rounds)
+}
+
+/// The minimum times of the rounds.
+fn measure_rounds<R: Clock + AllocGlobal>(
+    rt: &R,
+    paths: &[Vec<BString>],
+    id: ObjectId,
+    rounds: u32,
+) -> Result<Round, Fault> {
+    let mut minimum = measure_round(rt, paths, id)?;
     for _ in 1..rounds {
-        let round = measure_round(rt, &paths, id)?;
+        let round = measure_round(rt, paths, id)?;
         minimum.upserts = minimum.upserts.min(round.upserts);
         minimum.write = minimum.write.min(round.write);
     }
-    print_row(rt, "upserts", shape, files, minimum.upserts, &minimum)?;
-    print_row(rt, "write", shape, files, minimum.write, &minimum)
+    Ok(minimum)
 }
 
 /// Prints a row of a case: the work and its nanoseconds for a file.
@@ -109,19 +131,28 @@ fn measure_round<R: Clock + AllocGlobal>(
     paths: &[Vec<BString>],
     id: ObjectId,
 ) -> Result<Round, Fault> {
-    let alloc = rt.alloc();
-    let mut editor = Editor::new(Tree::empty(alloc), Never, Sha1);
+    let mut editor = Editor::new(Tree::empty(rt.alloc()), Never, Sha1);
+    measure_editor(rt, &mut editor, paths, id)
+}
+
+/// Upserts the files in this editor, and writes.
+fn measure_editor<R: Clock + AllocGlobal>(
+    rt: &R,
+    editor: &mut Editor<Never>,
+    paths: &[Vec<BString>],
+    id: ObjectId,
+) -> Result<Round, Fault> {
     let start = Instant::now(rt)?;
-    upsert_all(&mut editor, paths, id)?;
+    upsert_all(editor, paths, id)?;
     let upserts = nanos_since(rt, start)?;
     let start = Instant::now(rt)?;
-    let written = write_all(alloc, &mut editor)?;
+    let (root, trees) = write_all(rt.alloc(), editor)?;
     let write = nanos_since(rt, start)?;
     Ok(Round {
         upserts,
         write,
-        trees: written.trees.len(),
-        root: written.id,
+        trees,
+        root,
     })
 }
 
@@ -139,10 +170,10 @@ fn upsert_all(
     Ok(())
 }
 
-/// Writes the trees of the editor.
-fn write_all(alloc: Global, editor: &mut Editor<Never>) -> Result<Written, Fault> {
+/// Writes the trees of the editor. Returns the id of the root and the number of emitted trees.
+fn write_all(alloc: Global, editor: &mut Editor<Never>) -> Result<(ObjectId, usize), Fault> {
     match editor.write(|tree: &Tree| tree.compute_id(alloc, Sha1)) {
-        Ok(written) => Ok(written),
+        Ok(written) => Ok((written.id, written.trees.len())),
         Err(_) => Err(Fault::CallFailed),
     }
 }
