@@ -5,6 +5,7 @@ use super::{PLAIN, SIGNED, owned_form};
 use crate::helpers::{Answer, completes};
 use gixobj_base::hash::Kind;
 use gixobj_base::{WriteTo, decode, encode};
+use gixobj_codec::commit::ref_iter::Token;
 use gixobj_codec::{CommitRef, CommitRefIter};
 use std::alloc::Global;
 
@@ -29,10 +30,15 @@ fn of_commit<T: WriteTo>(alloc: Global, commit: &T, bytes: &[u8]) -> Answer
     requires { T.can_write commit.now }
 {
     let mut out = Vec::new(alloc);
-    match &commit.write_to(alloc, &mut out) {
-        Ok(()) => Answer::complete_where(
-            out.as_slice() == bytes && commit.size() == Some(bytes.len() as u64),
-        ),
+    let written = commit.write_to(alloc, &mut out);
+    let is_right = out.as_slice() == bytes && commit.size() == Some(bytes.len() as u64);
+    of_written(&written, is_right)
+}
+
+/// Classifies the result of a write, which is right or not.
+fn of_written(written: &Result<(), encode::Error>, is_right: bool) -> Answer {
+    match written {
+        Ok(()) => Answer::complete_where(is_right),
         Err(encode::Error::Writer(_)) => Answer::WithoutMemory,
         Err(_) => Answer::Other,
     }
@@ -54,20 +60,29 @@ fn of_owned(alloc: Global, bytes: &[u8]) -> Answer {
     }
 }
 
-/// Classifies a run over the tokens of an encoding, by their count. After an error it yields nothing.
-fn of_tokens(alloc: Global, bytes: &[u8], wanted: usize) -> Answer {
-    let mut tokens = CommitRefIter::from_bytes(alloc, bytes, Kind::Sha1);
-    let mut count = 0usize;
-    while let Some(token) = tokens.next() {
-        match token {
-            Ok(_) => count = count.saturating_add(1),
-            Err(error) => {
-                let is_last = Answer::complete_where(tokens.next().is_none());
-                return of_error(&error).and(is_last);
-            }
-        }
+/// Updates the outcome of a run, and its count of tokens, by one more item. After an error there may be none.
+fn after_item(
+    outcome: (Answer, usize),
+    item: &Result<Token<'_>, decode::Error>,
+) -> (Answer, usize) {
+    let (answer, count) = outcome;
+    match (answer, item) {
+        (Answer::Complete, Ok(_)) => (Answer::Complete, count.saturating_add(1)),
+        (Answer::Complete, Err(error)) => (of_error(error), count),
+        _ => (Answer::Other, count),
     }
-    Answer::complete_where(count == wanted)
+}
+
+/// Classifies a run over the tokens of an encoding, by their count.
+fn of_tokens(alloc: Global, bytes: &[u8], wanted: usize) -> Answer {
+    let mut outcome = (Answer::Complete, 0usize);
+    for token in CommitRefIter::from_bytes(alloc, bytes, Kind::Sha1) {
+        outcome = after_item(outcome, &token);
+    }
+    match outcome {
+        (Answer::Complete, count) => Answer::complete_where(count == wanted),
+        (answer, _) => answer,
+    }
 }
 
 #[test]
