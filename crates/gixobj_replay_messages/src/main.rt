@@ -4,6 +4,7 @@
 #![tactic(auto)]
 
 mod messages;
+mod programs;
 mod scripts;
 mod signatures;
 mod tags;
@@ -13,10 +14,10 @@ use Rows::{Long, Named, Plain};
 use gixobj_recorded::answer::Form;
 use gixobj_recorded::tables::{Replay, Rows};
 use messages::{body_answer, message_answer, named_answer};
+use programs::program_answer;
 use scripts::{command_answer, script_answer, stored_script_answer};
 use signatures::{
-    gpg_report_answer, marker_answer, program_answer, signed_data_answer, ssh_report_answer,
-    trust_answer,
+    gpg_report_answer, marker_answer, signed_data_answer, ssh_report_answer, trust_answer,
 };
 use std::io::Write;
 use std::process::ExitCode;

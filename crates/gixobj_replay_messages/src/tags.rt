@@ -9,7 +9,7 @@ use gixobj_base::hash::ObjectId;
 use gixobj_base::{Kind, WriteTo, compute_hash, decode, encode, hash};
 use gixobj_codec::tag::ref_iter::Token;
 use gixobj_codec::tag::write;
-use gixobj_codec::{TagRef, TagRefIter};
+use gixobj_codec::{Tag, TagRef, TagRefIter};
 use gixobj_recorded::actors::{add_actor, write_actor, write_owned_actor};
 use gixobj_recorded::answer::{Answer, Form, Prefix};
 use gixobj_recorded::fields::{
@@ -26,17 +26,21 @@ pub(crate) fn tag_answer(question: &[u8], answer: &mut Answer) {
         write_fields(&tag, tag.target(), answer);
         write_encoding(&tag, answer);
         write_sizes(&tag, answer);
-        let owned = tag.into_owned(answer.alloc);
-        answer.write_result("owned", &owned);
-        if let Ok(owned) = owned {
-            answer.prefix = Prefix::Owned;
-            match &owned.tagger {
-                Some(actor) => write_owned_actor("tagger", actor, answer),
-                None => answer.write_pair("tagger", "-"),
-            }
-            write_encoding(&owned, answer);
-            write_sizes(&owned, answer);
+        write_owned(tag.into_owned(answer.alloc), answer);
+    }
+}
+
+/// The columns of the tagger of an owned tag, and of its encoding.
+fn write_owned(owned: Result<Tag, decode::Error>, answer: &mut Answer) {
+    answer.write_result("owned", &owned);
+    if let Ok(owned) = &owned {
+        answer.prefix = Prefix::Owned;
+        match &owned.tagger {
+            Some(actor) => write_owned_actor("tagger", actor, answer),
+            None => answer.write_pair("tagger", "-"),
         }
+        write_encoding(owned, answer);
+        write_sizes(owned, answer);
     }
 }
 
@@ -167,15 +171,19 @@ pub(crate) fn git_tag_answer(question: &[u8], answer: &mut Answer) {
         write_seen(&tag, tag.target(), tokens, answer);
         write_both_written(tag, hash_kind, answer);
     }
+    write_told(tokens, answer);
+    write_calls(tokens, answer);
+}
+
+/// The column of the names of the tokens, with `more` if the iterator goes on after its end.
+fn write_told(mut tokens: TagRefIter<'_>, answer: &mut Answer) {
     answer.write("told");
-    let mut rest = tokens;
-    while let Some(token) = rest.next() {
+    while let Some(token) = tokens.next() {
         answer.add(token_name(&token));
     }
-    if rest.next().is_some() {
+    if tokens.next().is_some() {
         answer.add("more");
     }
-    write_calls(tokens, answer);
 }
 
 /// The column of what git shows of a tag: target, kind, name and the tagger's line, each on a line. The
