@@ -258,7 +258,7 @@ fn write_owned(owned: Result<Commit, decode::Error>, input: &[u8], answer: &mut 
 pub(crate) fn beginning_answer(question: &[u8], answer: &mut Answer) {
     let (hash_kind, bytes) = kind_and_bytes(question, answer);
     let input = bytes.as_slice();
-    write_whole(input, hash_kind, answer);
+    write_entire(input, hash_kind, answer);
     let tokens = CommitRefIter::from_bytes(answer.alloc, input, hash_kind);
     let mut rest = write_tokens(tokens, false, answer);
     answer.write("end");
@@ -268,7 +268,7 @@ pub(crate) fn beginning_answer(question: &[u8], answer: &mut Answer) {
 }
 
 /// The column of whether the input decodes as a commit.
-fn write_whole(input: &[u8], hash_kind: hash::Kind, answer: &mut Answer) {
+fn write_entire(input: &[u8], hash_kind: hash::Kind, answer: &mut Answer) {
     let commit = CommitRef::from_bytes(answer.alloc, input, hash_kind);
     answer.write_result("whole", &commit);
 }

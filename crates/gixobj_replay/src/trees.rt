@@ -152,8 +152,8 @@ pub(crate) fn git_tree_answer(question: &[u8], answer: &mut Answer) {
 fn write_tree(input: &[u8], tree: TreeRef<'_>, seen: TreeRefIter<'_>, answer: &mut Answer) {
     write_entries(&tree, answer);
     write_written(input, &tree, answer);
-    let told = yields_entries(answer.alloc, seen, tree.entries.as_slice());
-    answer.write_pair("told", alike(told));
+    let is_yielded = yields_entries(answer.alloc, seen, tree.entries.as_slice());
+    answer.write_pair("told", alike(is_yielded));
     let Ok(copy) = tree.to_owned(answer.alloc) else {
         return answer.fail();
     };

@@ -171,12 +171,12 @@ pub(crate) fn git_tag_answer(question: &[u8], answer: &mut Answer) {
         write_seen(&tag, tag.target(), tokens, answer);
         write_both_written(tag, hash_kind, answer);
     }
-    write_told(tokens, answer);
+    write_token_names(tokens, answer);
     write_calls(tokens, answer);
 }
 
 /// The column of the names of the tokens, with `more` if the iterator goes on after its end.
-fn write_told(mut tokens: TagRefIter<'_>, answer: &mut Answer) {
+fn write_token_names(mut tokens: TagRefIter<'_>, answer: &mut Answer) {
     answer.write("told");
     while let Some(token) = tokens.next() {
         answer.add(token_name(&token));
