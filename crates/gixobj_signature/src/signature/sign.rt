@@ -11,8 +11,8 @@ mod calls;
 use crate::signature::{RunError, Runner};
 use bstr::{BString, ByteSlice};
 use calls::{gpg_call_of, ssh_call_of};
+use gixobj_fields::signature::Format;
 use gixobj_hash::{OutOfMemory, decode};
-use gixobj_line::signature::Format;
 use gixobj_streams::encode;
 use std::alloc::Global;
 
