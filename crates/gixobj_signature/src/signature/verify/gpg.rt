@@ -13,7 +13,7 @@ ghost use Rattle.gixobj_signature.specs.Verifying.{IsOutcomeOf, gpg_verified, gp
 
 use super::{Error, Program, run_call};
 use crate::signature::arguments::Piece::{File, Text};
-use crate::signature::arguments::{arguments_with, environment_of};
+use crate::signature::arguments::{arguments_with, environment_of, file_of};
 use crate::signature::{Call, Output, Runner, SignedData, Word};
 use bstr::{BString, ByteSlice};
 use gixobj_fields::signature::Format;
@@ -132,7 +132,7 @@ fn open_pgp_call_of(
         ≡ open_pgp_call (program_of by.now) signature.now (signed_bytes signed.now)) }
 {
     let words = open_pgp_arguments_of(alloc, by)?;
-    let files = vec![in alloc; BString::from_slice(alloc, signature)?]?;
+    let files = file_of(alloc, signature)?;
     let input = Some(signed.to_bstring(alloc)?);
     call_of(alloc, by, words, files, input)
 }
