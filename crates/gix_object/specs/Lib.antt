@@ -66,7 +66,8 @@ pub use Rattle.gixobj_find.specs.InMemory as MemoryCells
 pub use Rattle.gixobj_find.specs.NeverWrites
 pub use Rattle.gixobj_find.specs.Writers
 pub use Rattle.gixobj_find.specs.declared as find
-pub use Rattle.gixobj_line.specs.Markers
+pub use Rattle.gixobj_fields.specs.Markers
+pub use Rattle.gixobj_fields.specs.declared as formats
 pub use Rattle.gixobj_hash.specs.ByteStrings
 pub use Rattle.gixobj_hash.specs.Bytes
 pub use Rattle.gixobj_hash.specs.Decode

@@ -25,9 +25,9 @@ pub use gixobj_directories::laws::{looked_up_file_exists, store_has_tree_map};
 pub use gixobj_editor::laws::{
     consistent_run_has_table, encodable_tree_decodes_to_itself, run_table_agrees_with_writes,
 };
+pub use gixobj_fields::laws::{marker_position_is_unique, signature_format_is_unique};
 pub use gixobj_files::laws::{
     consistent_pairs_have_table, list_has_table, plain_history_is_table_independent,
     single_root_is_opened, store_has_table,
 };
 pub use gixobj_import::laws::consistent_import_has_table;
-pub use gixobj_line::laws::{marker_position_is_unique, signature_format_is_unique};

@@ -8,8 +8,8 @@ use Rattle.gixobj_hash.specs.declared.decode.Error.TheVariants as error
 use Rattle.gixobj_hash.specs.declared.hash.kind.Kind.{Kind}
 use Rattle.gixobj_line.specs.CommitSignatures.{HasCommitSignature, HasNoSignature, IsCommitSignatureError}
 use Rattle.gixobj_line.specs.TagSignatures.{HasTagSignature}
-use Rattle.gixobj_line.specs.Markers.{HasNoMarker}
-use Rattle.gixobj_line.specs.declared.signature.Format.{Format}
+use Rattle.gixobj_fields.specs.Markers.{HasNoMarker}
+use Rattle.gixobj_fields.specs.declared.signature.Format.{Format}
 
 -- the position of the tag's signature, which signs all bytes before it; without one nothing is written
 abbrev pub IsTagSignatureCall : List ℕ → Span → Span → ℕ → Type 0

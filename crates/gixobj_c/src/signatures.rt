@@ -6,11 +6,11 @@ ghost use Rattle.gixobj_c.specs.Signatures.{IsCommitSignatureCall, IsTagSignatur
 use crate::spans::{Span, span_before};
 use gixobj_calls::buffers::write_two;
 use gixobj_calls::codes::{DONE, MALFORMED, NOT_FOUND, OUT_OF_MEMORY, UNKNOWN_CODE, hash_of_code};
+use gixobj_fields::signature;
 use gixobj_hash::OutOfMemory;
 use gixobj_hash::decode::Error;
 use gixobj_hash::hash::Kind;
 use gixobj_line::headers::find_signature;
-use gixobj_line::signature;
 use std::alloc::Global;
 
 /// Finds the signature of a tag. It signs all bytes before it. Allocates nothing.

@@ -15,7 +15,7 @@ use Rattle.gixobj_signature.specs.declared.signature.sign.Error.{Error}
 use Rattle.gixobj_signature.specs.declared.signature.sign.Options.{Options}
 use Rattle.gixobj_line.specs.TagSignatures as tags
 use Rattle.gixobj_tag.specs.TagSigning as tag
-use Rattle.gixobj_line.specs.Markers.{HasNoMarker}
+use Rattle.gixobj_fields.specs.Markers.{HasNoMarker}
 use Rattle.gixobj_tag.specs.TagFormat.{TagLines}
 use Rattle.gixobj_tag.specs.TagViews as tag_views
 use Rattle.gixobj_tag.specs.TagWriting.{encode_tag}

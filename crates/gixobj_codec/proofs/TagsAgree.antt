@@ -8,10 +8,10 @@ use Rattle.bstr.specs.BStr.{bstr_bytes}
 use Rattle.gixobj_hash.specs.FieldFormat.{encode_field}
 use Rattle.gixobj_hash.specs.Kind.{kind_name}
 use Rattle.gixobj_hash.specs.declared.hash.kind.Kind.{Kind}
-use Rattle.gixobj_line.proofs.MarkerPlaces.{no_marker_and_marker_place, format_of_marker_unique, marker_place_unique}
-use Rattle.gixobj_line.specs.Markers.{BeginsWithMarker, HasNoMarker, IsMarkerOf, IsMarkerPlace, HasMarkerAt, StartsLine, pgp_message, pgp_signature, signed_message, ssh_signature}
-use Rattle.gixobj_line.specs.declared.signature.Format.{Format}
-use Rattle.gixobj_line.specs.declared.signature.SignatureRef.{SignatureRef}
+use Rattle.gixobj_fields.proofs.MarkerPlaces.{no_marker_and_marker_place, format_of_marker_unique, marker_place_unique}
+use Rattle.gixobj_fields.specs.Markers.{BeginsWithMarker, HasNoMarker, IsMarkerOf, IsMarkerPlace, HasMarkerAt, StartsLine, pgp_message, pgp_signature, signed_message, ssh_signature}
+use Rattle.gixobj_fields.specs.declared.signature.Format.{Format}
+use Rattle.gixobj_fields.specs.declared.signature.SignatureRef.{SignatureRef}
 use Rattle.gixobj_ref_iter.specs.TagExtracting.{FindsSignatureOfTag}
 use Rattle.gixobj_line.specs.TagSignatures.{HasTagSignature}
 use Rattle.gixobj_tag.proofs.EntireTags.{Reads, parts_of_decoded_tag}

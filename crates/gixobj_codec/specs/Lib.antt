@@ -23,7 +23,8 @@ pub use Rattle.gixobj_entries.specs.EntryViews
 pub use Rattle.gixobj_entries.specs.TreeDecoding
 pub use Rattle.gixobj_entries.specs.declared as entries
 pub use Rattle.gixobj_fields.specs.HeaderReading
-pub use Rattle.gixobj_line.specs.Markers
+pub use Rattle.gixobj_fields.specs.Markers
+pub use Rattle.gixobj_fields.specs.declared as formats
 pub use Rattle.gixobj_hash.specs.ByteStrings
 pub use Rattle.gixobj_hash.specs.Bytes
 pub use Rattle.gixobj_hash.specs.Decode

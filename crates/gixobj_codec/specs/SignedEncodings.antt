@@ -8,8 +8,8 @@ use Rattle.gixobj_signature.specs.Plans.{CarriesOut}
 use Rattle.gixobj_signature.specs.Signing.{sign_options_view, sign_plan, signature}
 use Rattle.gixobj_signature.specs.declared.signature.sign.Options.{Options}
 use Rattle.gixobj_codec.specs.OneMarker.{HasOneMarker}
-use Rattle.gixobj_line.specs.Markers.{HasNoMarker}
-use Rattle.gixobj_line.specs.declared.signature.Format.{Format}
+use Rattle.gixobj_fields.specs.Markers.{HasNoMarker}
+use Rattle.gixobj_fields.specs.declared.signature.Format.{Format}
 use Rattle.gixobj_line.specs.TagSignatures as tags
 use Rattle.gixobj_line.specs.CommitSignatures as commits
 

@@ -8,7 +8,7 @@ ghost use Rattle.gixobj_hash.specs.declared.hash.kind.Kind.{Kind};
 ghost use Rattle.gixobj_line.specs.Commit.{CommitLines, DecodesToCommit};
 ghost use Rattle.gixobj_line.specs.TagSignatures.{HasTagSignature};
 ghost use Rattle.gixobj_tag.specs.TagFormat.{DecodesToTag, TagLines};
-ghost use Rattle.gixobj_line.specs.declared.signature.Format.{Format};
+ghost use Rattle.gixobj_fields.specs.declared.signature.Format.{Format};
 
 use gixobj_tag::laws::{tag_recognition_agrees, tag_reencodes_identically};
 

@@ -1,2 +1,5 @@
 pub mod HeaderFields
+pub mod MarkerPlaces
+mod MarkersFound
+mod Prefixes
 pub mod Readers

@@ -1,7 +1,9 @@
 pub mod HeaderReading
 pub mod Iterators
-pub use Rattle.gixobj_hash.specs.Bytes
+pub mod LineWalk
+pub mod Markers
 pub use Rattle.gixobj_hash.specs.ByteStrings
+pub use Rattle.gixobj_hash.specs.Bytes
 pub use Rattle.gixobj_hash.specs.Decode
 pub use Rattle.gixobj_hash.specs.Hash
 pub use Rattle.gixobj_hash.specs.HeaderFormat

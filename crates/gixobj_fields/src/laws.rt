@@ -1,6 +1,10 @@
-//! Laws of header fields. The contract of each function is the law, and its body is empty.
+//! Laws of header fields and of signature markers. The contract of each function is the law, and its body is empty.
 ghost use Rattle.std.specs.Prelude.{◌≡◌, ℕ, List};
 ghost use Rattle.gixobj_hash.specs.HeaderFormat.{BeginsWithField, BeginsWithHeader, Header};
+
+mod signatures;
+
+pub use signatures::{marker_position_is_unique, signature_format_is_unique};
 
 /// A header field decodes uniquely.
 ///

@@ -2,10 +2,7 @@ pub mod CommitsRead
 pub mod EntireCommits
 mod LineErrors
 pub mod LinesYielded
-pub mod MarkerPlaces
-mod MarkersFound
 pub mod OneLine
-mod Prefixes
 mod Searching
 mod SkippedLines
 pub mod TagBodies

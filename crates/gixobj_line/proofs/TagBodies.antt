@@ -3,8 +3,8 @@ use Rattle.std.proofs.Common.{◌≡◌, ◌≢◌, ◌+◌, ◌-◌, ℕ, List,
 use Rattle.std.proofs.Math.Seq.{drop-append_seam, take-append_seam}
 use Rattle.std.proofs.lemmas.Bool.{true≢false}
 use Rattle.std.proofs.lemmas.List.{take_rest}
-use Rattle.gixobj_line.specs.Markers.{HasNoMarker, IsMarkerPlace, StartsLine}
-use Rattle.gixobj_line.specs.declared.signature.Format.{Format}
+use Rattle.gixobj_fields.specs.Markers.{HasNoMarker, IsMarkerPlace, StartsLine}
+use Rattle.gixobj_fields.specs.declared.signature.Format.{Format}
 use Rattle.gixobj_line.specs.TagBodies.{IsMalformedBody, IsBody, IsParted, are_newlines, after_a_newline, newlines_alone, signed, signed_at_once, unsigned}
 
 -- ---- bytes split at their marker

@@ -2,9 +2,7 @@ pub mod Commit
 pub mod CommitBuilding
 pub mod CommitHeaders
 pub mod CommitSignatures
-pub mod LineWalk
 pub mod Lines
-pub mod Markers
 pub mod TagBodies
 pub mod TagLineViews
 pub mod TagLines

@@ -2,8 +2,8 @@
 use Rattle.std.specs.Prelude.{◌≡◌, ◌+◌, ◌==◌, ℕ, Bool, List, [], ◌∷◌, ◌++◌, IsFalse, IsTrue, Option, Some, None, length}
 use Rattle.std.specs.List.{list_all}
 use Rattle.gixobj_hash.specs.Bytes.{newline}
-use Rattle.gixobj_line.specs.Markers.{HasNoMarker, IsMarkerPlace}
-use Rattle.gixobj_line.specs.declared.signature.Format.{Format}
+use Rattle.gixobj_fields.specs.Markers.{HasNoMarker, IsMarkerPlace}
+use Rattle.gixobj_fields.specs.declared.signature.Format.{Format}
 
 -- the bytes are newlines alone, or there are none
 abbrev pub are_newlines : List ℕ → Bool

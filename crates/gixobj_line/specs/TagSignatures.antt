@@ -1,7 +1,7 @@
 -- The signature of a tag, and the data that it signs: all bytes before it (gitformat-signature, "Tag signatures").
 use Rattle.std.specs.Prelude.{◌≡◌, ℕ, List, ◌++◌, length}
-use Rattle.gixobj_line.specs.Markers.{IsMarkerPlace}
-use Rattle.gixobj_line.specs.declared.signature.Format.{Format}
+use Rattle.gixobj_fields.specs.Markers.{IsMarkerPlace}
+use Rattle.gixobj_fields.specs.declared.signature.Format.{Format}
 
 -- the signature begins at the last marker at the start of a line, and all bytes before it are signed
 pub record HasTagSignature (content signature signed : List ℕ) (format : Format) : Type 0 where

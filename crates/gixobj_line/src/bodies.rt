@@ -5,9 +5,9 @@ ghost use Rattle.gixobj_hash.specs.Bytes.{newline};
 ghost use Rattle.gixobj_hash.specs.Optional.{bytes_if_some};
 ghost use Rattle.gixobj_line.specs.TagBodies.{IsBody, IsMalformedBody, IsParted, are_newlines as are_newlines_of};
 
-use crate::signature;
 use bstr::BStr;
 use gixobj_fields::parse::after_newline;
+use gixobj_fields::signature;
 
 /// Decodes a body to its message and its signature.
 ///

@@ -1,6 +1,5 @@
-//! The lines of commits and of tags, the tokens and bodies of tags with their signatures, and the search for a
-//! header in the encoding of a commit (gitdatamodel, "commits", "tag objects"; gitformat-signature). The
-//! decoders in crates above share them.
+//! The lines of commits and of tags, the tokens and bodies of tags, and the search for a header in the encoding
+//! of a commit (gitdatamodel, "commits", "tag objects"). The decoders in crates above share them.
 //!
 //! Two calls report whether bytes are the encoding of a commit or of a tag at all, and allocate nothing.
 #![tactic(auto)]
@@ -8,8 +7,6 @@
 pub mod bodies;
 pub mod commits;
 pub mod headers;
-pub mod laws;
 pub mod lines;
-pub mod signature;
 pub mod tags;
 pub mod tokens;

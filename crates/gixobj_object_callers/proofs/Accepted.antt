@@ -16,8 +16,8 @@ use Rattle.gix_object.specs.report.report.Status.TheVariants as status
 use Rattle.gix_object.specs.report.report.TrustLevel.{TrustLevel}
 use Rattle.gix_object.specs.report.report.TrustLevel.TheVariants as trust
 use Rattle.gix_object.specs.signature.signature.verify.Error.{Error}
-use Rattle.gix_object.specs.line.signature.Format.{Format}
-use Rattle.gix_object.specs.line.signature.Format.TheVariants as format
+use Rattle.gix_object.specs.formats.signature.Format.{Format}
+use Rattle.gix_object.specs.formats.signature.Format.TheVariants as format
 use Rattle.gixobj_object_callers.specs.AcceptedSignatures.{AcceptsPrincipal, TriesInVain, ReportsGood, Vouches}
 
 -- ---- accepted outcomes

@@ -8,7 +8,7 @@ use Rattle.gix_object.specs.TagFormat.{DecodesToTag, TagLines}
 use Rattle.gix_object.specs.hash.hash.kind.Kind as hash
 use Rattle.gix_object.specs.hash.kind.Kind.{Kind}
 use Rattle.gix_object.specs.hash.kind.Kind.TheVariants as kind
-use Rattle.gix_object.specs.line.signature.Format.{Format}
+use Rattle.gix_object.specs.formats.signature.Format.{Format}
 use Rattle.gixobj_object_callers.specs.AcceptedSignatures.{IsObjectSignature, SignsObject}
 
 module _ (commits : (ids : hash.Kind) (content : List ℕ) (commit : CommitLines) (signature signed : List ℕ) → DecodesToCommit ids content commit

@@ -40,8 +40,8 @@ use Rattle.gix_object.specs.signature.signature.sign.Error.TheVariants.{Encode}
 use Rattle.gix_object.specs.signature.signature.sign.Options.{Options}
 use Rattle.gix_object.specs.signature.signature.signed_data.SignedData.{SignedData}
 use Rattle.gix_object.specs.signature.signature.verify.Error.{Error}
-use Rattle.gix_object.specs.line.signature.Format.{Format}
-use Rattle.gix_object.specs.line.signature.Format.TheVariants as format
+use Rattle.gix_object.specs.formats.signature.Format.{Format}
+use Rattle.gix_object.specs.formats.signature.Format.TheVariants as format
 use Rattle.gixobj_object_callers.specs.declared.releases.AuditError.{AuditError}
 use Rattle.gixobj_object_callers.specs.declared.releases.AuditError.TheVariants as audit
 

@@ -3,7 +3,7 @@ use Rattle.std.specs.Prelude.{ℕ, List}
 use Rattle.bstr.specs.BStr.{bstr_bytes}
 use Rattle.gixobj_signature.specs.SignedBytes.{signed_bytes}
 use Rattle.gixobj_signature.specs.declared.signature.signed_data.SignedData.{SignedData}
-use Rattle.gixobj_line.specs.declared.signature.SignatureRef.{SignatureRef}
+use Rattle.gixobj_fields.specs.declared.signature.SignatureRef.{SignatureRef}
 use Rattle.gixobj_line.specs.TagSignatures.{HasTagSignature}
 
 -- the signature with its format, and the data that it signs, are those of these bytes

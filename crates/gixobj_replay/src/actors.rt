@@ -1,5 +1,6 @@
 //! Answers about actors: decoded, trimmed and encoded again.
 
+use gixobj_base::OutOfMemory;
 use gixobj_base::actor::{Signature, SignatureRef};
 use gixobj_recorded::actors::{write_actor, write_owned_actor};
 use gixobj_recorded::answer::Answer;
@@ -19,17 +20,22 @@ pub(crate) fn actor_answer(question: &[u8], answer: &mut Answer) {
             answer.write("size");
             answer.add_size(actor.size());
             write_borrowed(actor, answer);
-            match actor.to_owned(answer.alloc) {
-                Ok(owned) => {
-                    write_owned_actor("owned", &owned, answer);
-                    answer.write("owned-size");
-                    answer.add_size(owned.size());
-                    write_owned("owned-written", &owned, answer);
-                }
-                Err(_) => answer.fail(),
-            }
+            write_copy(actor.to_owned(answer.alloc), answer);
         }
         Err(error) => answer.write(fault(&error)),
+    }
+}
+
+/// The columns of an owned actor, of its size and of its encoding.
+fn write_copy(owned: Result<Signature, OutOfMemory>, answer: &mut Answer) {
+    match owned {
+        Ok(owned) => {
+            write_owned_actor("owned", &owned, answer);
+            answer.write("owned-size");
+            answer.add_size(owned.size());
+            write_owned("owned-written", &owned, answer);
+        }
+        Err(OutOfMemory) => answer.fail(),
     }
 }
 

@@ -6,7 +6,7 @@ use crate::objects::write_next_to;
 use bstr::BStr;
 use gixobj_base::actor::SignatureRef;
 use gixobj_base::hash::Kind::Sha1;
-use gixobj_base::{Kind, compute_hash, decode};
+use gixobj_base::{Kind, compute_hash, decode, hash};
 use gixobj_codec::commit::ref_iter::Token;
 use gixobj_codec::{Commit, CommitRef, CommitRefIter};
 use gixobj_recorded::actors::{add_time, write_actor, write_actor_or_fault, write_owned_actor};
@@ -29,23 +29,34 @@ pub(crate) fn commit_answer(question: &[u8], answer: &mut Answer) {
 fn write_commit(commit: CommitRef<'_>, answer: &mut Answer)
     requires { HasIds (commit_lines commit) }
 {
+    write_lines(&commit, answer);
+    write_encoding(&commit, answer);
+    write_owned_lines(commit.into_owned(answer.alloc), answer);
+}
+
+/// The columns of the lines of a commit.
+fn write_lines(commit: &CommitRef<'_>, answer: &mut Answer)
+    requires { HasIds (commit_lines commit.now) }
+{
     answer.write_bytes("tree", commit.tree.as_bytes());
     answer.add_shown(commit.tree());
-    write_parents(&commit, answer);
+    write_parents(commit, answer);
     answer.write_bytes("author", commit.author.as_bytes());
     write_actor_or_fault("author-trim", commit.author(), answer);
     answer.write_bytes("committer", commit.committer.as_bytes());
     write_actor_or_fault("committer-trim", commit.committer(), answer);
-    write_time(&commit, answer);
-    write_others(&commit, answer);
-    write_encoding(&commit, answer);
-    let owned = commit.into_owned(answer.alloc);
+    write_time(commit, answer);
+    write_others(commit, answer);
+}
+
+/// The columns of the actors of an owned commit, and of its encoding.
+fn write_owned_lines(owned: Result<Commit, decode::Error>, answer: &mut Answer) {
     answer.write_result("owned", &owned);
-    if let Ok(owned) = owned {
+    if let Ok(owned) = &owned {
         answer.prefix = Prefix::Owned;
         write_owned_actor("author", &owned.author, answer);
         write_owned_actor("committer", &owned.committer, answer);
-        write_encoding(&owned, answer);
+        write_encoding(owned, answer);
     }
 }
 
@@ -247,10 +258,7 @@ fn write_owned(owned: Result<Commit, decode::Error>, input: &[u8], answer: &mut 
 pub(crate) fn beginning_answer(question: &[u8], answer: &mut Answer) {
     let (hash_kind, bytes) = kind_and_bytes(question, answer);
     let input = bytes.as_slice();
-    answer.write_result(
-        "whole",
-        &CommitRef::from_bytes(answer.alloc, input, hash_kind),
-    );
+    write_entire(input, hash_kind, answer);
     let tokens = CommitRefIter::from_bytes(answer.alloc, input, hash_kind);
     let mut rest = write_tokens(tokens, false, answer);
     answer.write("end");
@@ -259,25 +267,36 @@ pub(crate) fn beginning_answer(question: &[u8], answer: &mut Answer) {
     }
 }
 
+/// The column of whether the input decodes as a commit.
+fn write_entire(input: &[u8], hash_kind: hash::Kind, answer: &mut Answer) {
+    let commit = CommitRef::from_bytes(answer.alloc, input, hash_kind);
+    answer.write_result("whole", &commit);
+}
+
 /// Answers with the headers of a name in a commit, borrowed and owned.
 pub(crate) fn search_answer(question: &[u8], answer: &mut Answer) {
     let (name, content) = split_at_first(question, b' ');
     let name = str::from_utf8(name).unwrap_or("");
     let (hash_kind, bytes) = kind_and_bytes(content, answer);
     match CommitRef::from_bytes(answer.alloc, bytes.as_slice(), hash_kind) {
-        Ok(commit) => {
-            let mut found = answer.part();
-            write_found(&commit, name, &mut found);
-            let mut owned = answer.part();
-            match commit.into_owned(answer.alloc) {
-                Ok(commit) => write_owned_found(&commit, name, &mut owned),
-                Err(error) => owned.write(fault(&error)),
-            }
-            answer.push_answer(&found);
-            answer.write_same_or("owned", &owned, &found);
-        }
+        Ok(commit) => write_search(commit, name, answer),
         Err(error) => answer.write_pair("whole", fault(&error)),
     }
+}
+
+/// The columns of the headers of this name in a commit, borrowed and owned.
+fn write_search(commit: CommitRef<'_>, name: &str, answer: &mut Answer)
+    requires { HasIds (commit_lines commit) }
+{
+    let mut found = answer.part();
+    write_found(&commit, name, &mut found);
+    let mut owned = answer.part();
+    match commit.into_owned(answer.alloc) {
+        Ok(commit) => write_owned_found(&commit, name, &mut owned),
+        Err(error) => owned.write(fault(&error)),
+    }
+    answer.push_answer(&found);
+    answer.write_same_or("owned", &owned, &found);
 }
 
 /// The columns of the headers of this name in a borrowed commit, and of its signature.
@@ -289,9 +308,7 @@ fn write_found(commit: &CommitRef<'_>, name: &str, answer: &mut Answer)
         commit.extra_headers().find_pos(name),
         answer,
     );
-    for value in commit.extra_headers().find_all(name) {
-        answer.write_bytes("value", value.as_bytes());
-    }
+    write_values(commit, name, answer);
     write_value("signature", commit.extra_headers().pgp_signature(), answer);
 }
 
@@ -302,10 +319,24 @@ fn write_owned_found(commit: &Commit, name: &str, answer: &mut Answer) {
         commit.extra_headers().find_pos(name),
         answer,
     );
+    write_owned_values(commit, name, answer);
+    write_value("signature", commit.extra_headers().pgp_signature(), answer);
+}
+
+/// The columns of the values of this name in a borrowed commit.
+fn write_values(commit: &CommitRef<'_>, name: &str, answer: &mut Answer)
+    requires { HasIds (commit_lines commit.now) }
+{
     for value in commit.extra_headers().find_all(name) {
         answer.write_bytes("value", value.as_bytes());
     }
-    write_value("signature", commit.extra_headers().pgp_signature(), answer);
+}
+
+/// The columns of the values of this name in an owned commit.
+fn write_owned_values(commit: &Commit, name: &str, answer: &mut Answer) {
+    for value in commit.extra_headers().find_all(name) {
+        answer.write_bytes("value", value.as_bytes());
+    }
 }
 
 /// The columns of the first value and its position, or of missing ones.

@@ -27,13 +27,18 @@ pub(crate) fn write_next_to<T: WriteTo>(token: &str, object: &T, input: &[u8], a
 pub(crate) fn object_answer(question: &[u8], answer: &mut Answer) {
     let (bytes, hash_kind) = bytes_and_kind(question, answer);
     match ObjectRef::from_loose(answer.alloc, bytes.as_slice(), hash_kind) {
-        Ok(object) => {
-            answer.write_shown("ok", object.kind());
-            write_encoding(&object, answer);
-            write_sizes(&object, answer);
-        }
+        Ok(object) => write_encoded(&object, answer),
         Err(error) => answer.write_pair("err", case_of(&error)),
     }
+}
+
+/// The columns of an object's kind, its encoding and its size.
+fn write_encoded(object: &ObjectRef<'_>, answer: &mut Answer)
+    requires { IsReadyToWrite object.now }
+{
+    answer.write_shown("ok", object.kind());
+    write_encoding(object, answer);
+    write_sizes(object, answer);
 }
 
 /// The case of an error.
@@ -59,14 +64,27 @@ fn write_object(object: ObjectRef<'_>, hash_kind: hash::Kind, answer: &mut Answe
     requires encodable { IsReadyToWrite object }
     requires ids { HasObjectIds object }
 {
+    let content = write_borrowed(&object, hash_kind, answer);
+    write_owned(object.into_owned(answer.alloc), content.as_slice(), answer);
+}
+
+/// The columns of a borrowed object. Returns its encoding.
+fn write_borrowed(object: &ObjectRef<'_>, hash_kind: hash::Kind, answer: &mut Answer) -> Vec<u8>
+    requires { IsReadyToWrite object.now }
+{
     let kind = object.kind();
     answer.write_shown("ok", kind);
-    write_next_to("written", &object, b"", answer);
-    let (_, content) = encoded(&object, answer);
+    write_next_to("written", object, b"", answer);
+    let (_, content) = encoded(object, answer);
     answer.write_shown("id", compute_hash(hash_kind, kind, content.as_slice()));
-    let again = Data::new(content.as_slice(), kind, hash_kind).decode(answer.alloc);
-    answer.write_pair("decoded", same_object(&again, &object));
-    write_owned(object.into_owned(answer.alloc), content.as_slice(), answer);
+    write_again(object, content.as_slice(), hash_kind, answer);
+    content
+}
+
+/// The column of whether the encoding decodes to the same object.
+fn write_again(object: &ObjectRef<'_>, content: &[u8], hash_kind: hash::Kind, answer: &mut Answer) {
+    let again = Data::new(content, object.kind(), hash_kind).decode(answer.alloc);
+    answer.write_pair("decoded", same_object(&again, object));
 }
 
 /// Whether the encoding decodes to the same object.

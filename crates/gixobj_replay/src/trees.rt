@@ -152,21 +152,31 @@ pub(crate) fn git_tree_answer(question: &[u8], answer: &mut Answer) {
 fn write_tree(input: &[u8], tree: TreeRef<'_>, seen: TreeRefIter<'_>, answer: &mut Answer) {
     write_entries(&tree, answer);
     write_written(input, &tree, answer);
-    let entries = tree.entries.as_slice();
-    answer.write_pair("told", alike(yields_entries(answer.alloc, seen, entries)));
+    let is_yielded = yields_entries(answer.alloc, seen, tree.entries.as_slice());
+    answer.write_pair("told", alike(is_yielded));
     let Ok(copy) = tree.to_owned(answer.alloc) else {
         return answer.fail();
     };
+    write_copy(&tree, &copy, answer);
+    match tree.into_owned(answer.alloc) {
+        Ok(owned) => write_owned(input, &copy, &owned, answer),
+        Err(_) => answer.fail(),
+    }
+}
+
+/// The columns of a copied tree.
+fn write_copy(tree: &TreeRef<'_>, copy: &Tree, answer: &mut Answer) {
     let is_well_formed = copy.is_well_formed();
-    answer.write_pair("owned", alike(has_entries(&copy, entries)));
+    answer.write_pair("owned", alike(has_entries(copy, tree.entries.as_slice())));
     answer.write_pair("well-formed", yes_or_no(is_well_formed));
-    answer.write_pair("found", alike(are_found(&tree, is_well_formed)));
-    let Ok(owned) = tree.into_owned(answer.alloc) else {
-        return answer.fail();
-    };
+    answer.write_pair("found", alike(are_found(tree, is_well_formed)));
+}
+
+/// The columns of a tree that was converted to an owned one.
+fn write_owned(input: &[u8], copy: &Tree, owned: &Tree, answer: &mut Answer) {
     answer.write_pair("copied", alike(copy == owned));
     answer.prefix = Prefix::Owned;
-    write_written(input, &owned, answer);
+    write_written(input, owned, answer);
 }
 
 /// The columns of a tree's encoding: `back` if it equals the input, else its bytes; and of its sizes.

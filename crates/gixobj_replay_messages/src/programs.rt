@@ -6,7 +6,7 @@ use gixobj_base::date::parse_header;
 use gixobj_base::parse::split_at_byte;
 use gixobj_base::{WriteTo, hash};
 use gixobj_codec::{CommitRef, CommitRefIter, TagRef, TagRefIter};
-use gixobj_line::signature::Format;
+use gixobj_fields::signature::Format;
 use gixobj_recorded::answer::{Answer, Form};
 use gixobj_recorded::fields::{fault, kind_of_ids, split_at_first};
 use gixobj_recorded::objects::encoded;

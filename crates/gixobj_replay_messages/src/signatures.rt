@@ -3,7 +3,7 @@
 use bstr::BString;
 use gixobj_base::OutOfMemory;
 use gixobj_codec::{CommitRefIter, TagRefIter};
-use gixobj_line::signature::{Format, find};
+use gixobj_fields::signature::{Format, find};
 use gixobj_recorded::answer::Answer;
 use gixobj_recorded::fields::{fault, kind_of_ids, split_at_first};
 use gixobj_signature::signature::SignedData;

@@ -6,7 +6,7 @@ use Rattle.gixobj_report.specs.GpgReports.{Verdict, gpg_report, reported_names, 
 use Rattle.gixobj_report.specs.Outcomes.{copied_strings, no_strings}
 use Rattle.gixobj_report.specs.StatusLines.{after_spaces}
 use Rattle.gixobj_report.specs.declared.report.Status.{Status}
-use Rattle.gixobj_line.specs.declared.signature.Format.{Format}
+use Rattle.gixobj_fields.specs.declared.signature.Format.{Format}
 use Rattle.gixobj_report.proofs.FieldPositions.{field_at_eq}
 
 nil_of_unless_empty_none : (bytes : List ℕ) → unless_empty bytes ≡ None → bytes ≡ []

@@ -1,7 +1,7 @@
 -- Worked examples of reports, computed from the definitions; no proof uses them.
 use Rattle.std.proofs.Common.{◌≡◌, List, [], ◌++◌, None, Some, ℕ, codes, refl}
 use Rattle.bstr.proofs.Computing.{computing}
-use Rattle.gixobj_line.specs.declared.signature.Format.TheVariants as format
+use Rattle.gixobj_fields.specs.declared.signature.Format.TheVariants as format
 use Rattle.gixobj_report.specs.GpgReports.{gpg_report}
 use Rattle.gixobj_report.specs.Outcomes.{OutcomeView}
 use Rattle.gixobj_report.specs.SshReports.{ssh_report}

@@ -3,7 +3,7 @@ use Rattle.std.specs.Prelude.{ℕ, false, List, [], ◌∷◌, Option, Some, Non
 use Rattle.std.specs.List.{filter_map}
 use Rattle.std.specs.Option.{option_map}
 use Rattle.bstr.specs.Text.{lines_of, without_terminator}
-use Rattle.gixobj_line.specs.declared.signature.Format.{Format}
+use Rattle.gixobj_fields.specs.declared.signature.Format.{Format}
 use Rattle.gixobj_report.specs.Fields.{after_prefix, after_space, either, field_at, fields_of, first_token, last_of, unless_empty}
 use Rattle.gixobj_report.specs.Outcomes.{OutcomeView}
 use Rattle.gixobj_report.specs.Trust.{or_undefined, trust_of}

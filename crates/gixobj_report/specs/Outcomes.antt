@@ -2,7 +2,7 @@
 use Rattle.std.specs.Prelude.{ℕ, Bool, true, false, List, [], ◌∷◌, Option, None, nat_le, ◌&&◌}
 use Rattle.std.specs.Option.{option_map}
 use Rattle.bstr.specs.Owned.{bstring_bytes}
-use Rattle.gixobj_line.specs.declared.signature.Format.{Format}
+use Rattle.gixobj_fields.specs.declared.signature.Format.{Format}
 use Rattle.gixobj_report.specs.Trust.{level}
 use Rattle.gixobj_report.specs.declared.report.Outcome.{Outcome}
 use Rattle.gixobj_report.specs.declared.report.Status.{Status}

@@ -2,7 +2,7 @@
 use Rattle.std.specs.Prelude.{ℕ, false, List, [], ◌∷◌, Option, None, if◌then◌else◌, codes, nat_eq}
 use Rattle.std.specs.List.{starts_with}
 use Rattle.bstr.specs.Text.{lines_of, without_terminator}
-use Rattle.gixobj_line.specs.declared.signature.Format.TheVariants as format
+use Rattle.gixobj_fields.specs.declared.signature.Format.TheVariants as format
 use Rattle.gixobj_report.specs.Fields.{after_prefix, either}
 use Rattle.gixobj_report.specs.Outcomes.{OutcomeView}
 use Rattle.gixobj_report.specs.declared.report.Status.{Status}

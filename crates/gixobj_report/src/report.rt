@@ -7,7 +7,7 @@ pub mod gpg;
 pub mod ssh;
 
 use bstr::BString;
-use gixobj_line::signature::Format;
+use gixobj_fields::signature::Format;
 pub use gpg::parse_gpg_output;
 pub use ssh::parse_ssh_output;
 

@@ -18,9 +18,9 @@ use Rattle.gixobj_signature.specs.declared.signature.RunError.TheVariants as run
 use Rattle.gixobj_report.specs.declared.report.Outcome.{Outcome}
 use Rattle.gixobj_report.specs.declared.report.TrustLevel.{TrustLevel}
 use Rattle.gixobj_report.specs.declared.report.TrustLevel.TheVariants as trust
-use Rattle.gixobj_line.specs.Markers.{BeginsWithMarker, BeginsWithNoMarker}
-use Rattle.gixobj_line.specs.declared.signature.Format.{Format}
-use Rattle.gixobj_line.specs.declared.signature.Format.TheVariants as format
+use Rattle.gixobj_fields.specs.Markers.{BeginsWithMarker, BeginsWithNoMarker}
+use Rattle.gixobj_fields.specs.declared.signature.Format.{Format}
+use Rattle.gixobj_fields.specs.declared.signature.Format.TheVariants as format
 use Rattle.gixobj_signature.specs.SignedBytes.{signed_bytes}
 use Rattle.gixobj_signature.specs.Verifiers.{VerifyOptionsView, ProgramView, SshView, by_open_pgp, by_ssh, by_x509, verify_options_view}
 use Rattle.gixobj_signature.specs.VerifyingCalls.{novalidate_call, open_pgp_call, principal_call, principals_call, x509_call}

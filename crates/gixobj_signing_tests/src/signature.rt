@@ -1,7 +1,7 @@
 //! Signatures: their formats, and the positions at which they begin.
 
-use gixobj_line::signature::Format::{self, OpenPgp, Ssh, X509};
-use gixobj_line::signature::find;
+use gixobj_fields::signature::Format::{self, OpenPgp, Ssh, X509};
+use gixobj_fields::signature::find;
 use std::alloc::Global;
 
 /// Inputs, and the format of the marker with which they begin.

@@ -3,8 +3,8 @@
 use crate::calls::{Maker, PROGRAM, ScriptedAnswer, Step, WHY, name_with};
 use crate::objects::{Outcome, after_calls};
 use gixobj_encode::encode;
+use gixobj_fields::signature::Format::{self, OpenPgp, Ssh, X509};
 use gixobj_hash::decode;
-use gixobj_line::signature::Format::{self, OpenPgp, Ssh, X509};
 use gixobj_signature::signature::sign::{Error, Options, is_literal_ssh_key, sign_payload};
 use std::alloc::Global;
 

@@ -7,8 +7,8 @@ use crate::objects::{
 use crate::scripted::Played;
 use crate::signing::CREATED;
 use bstr::BStr;
+use gixobj_fields::signature::Format;
 use gixobj_hash::hash::Kind::{Sha1, Sha256};
-use gixobj_line::signature::Format;
 use gixobj_ref_iter::TagRefIter;
 use gixobj_signature::signature::sign::Error;
 use gixobj_tag::{Tag, TagRef};

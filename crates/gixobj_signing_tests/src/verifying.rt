@@ -3,7 +3,7 @@
 use crate::calls::{Maker, PROGRAM, ScriptedAnswer, Step, WHY, name_with, time};
 use crate::objects::after_calls;
 use bstr::{BStr, BString};
-use gixobj_line::signature::Format;
+use gixobj_fields::signature::Format;
 use gixobj_signature::signature::SignedData;
 use gixobj_signature::signature::verify::TrustLevel::{self, Fully, Marginal, Ultimate};
 use gixobj_signature::signature::verify::{Error, Options, Outcome};

@@ -10,8 +10,8 @@ use gixobj_base::hash::ObjectId;
 use gixobj_base::{Kind, decode};
 use gixobj_codec::tag::ref_iter::Token;
 use gixobj_codec::{Tag, TagRef};
-use gixobj_line::signature;
-use gixobj_line::signature::Format::{OpenPgp, Ssh, X509};
+use gixobj_fields::signature;
+use gixobj_fields::signature::Format::{OpenPgp, Ssh, X509};
 use std::alloc::Global;
 use std::cmp::Ordering;
 

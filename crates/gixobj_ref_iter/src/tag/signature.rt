@@ -1,11 +1,11 @@
 //! The signature in a tag's encoding, and the data that it signs (gitformat-signature, "Tag signatures").
 ghost use Rattle.std.specs.Prelude.{IfNone, IfSome};
-ghost use Rattle.gixobj_line.specs.Markers.{HasNoMarker};
+ghost use Rattle.gixobj_fields.specs.Markers.{HasNoMarker};
 ghost use Rattle.gixobj_ref_iter.specs.TagExtracting.{FindsSignatureOfTag};
 
 use super::TagRefIter;
 use bstr::BStr;
-use gixobj_line::signature::{SignatureRef, find};
+use gixobj_fields::signature::{SignatureRef, find};
 use gixobj_signature::signature::SignedData;
 
 /// Signatures

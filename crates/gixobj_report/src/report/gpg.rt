@@ -11,9 +11,9 @@ ghost use Rattle.gixobj_report.specs.Trust.{or_undefined, trust_of};
 
 use super::{Outcome, Status, TrustLevel};
 use bstr::{BString, ByteSlice};
+use gixobj_fields::signature::Format;
 use gixobj_hash::OutOfMemory;
 use gixobj_hash::split::split_at_byte;
-use gixobj_line::signature::Format;
 use std::alloc::Global;
 
 /// Decodes the report of an OpenPGP or X.509 program from its output.

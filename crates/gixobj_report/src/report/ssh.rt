@@ -9,9 +9,9 @@ ghost use Rattle.gixobj_report.specs.SshReports.{after_last, first_line, ssh_key
 
 use super::{Outcome, Status, TrustLevel};
 use bstr::{BString, ByteSlice};
+use gixobj_fields::signature::Format;
 use gixobj_hash::OutOfMemory;
 use gixobj_hash::split::split_at_last_byte;
-use gixobj_line::signature::Format;
 use std::alloc::Global;
 
 /// Decodes the report of an SSH program from its output, with this signer and this trust.

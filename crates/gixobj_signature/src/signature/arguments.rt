@@ -1,5 +1,5 @@
 //! Arguments and environment variables of calls, as owned copies.
-ghost use Rattle.std.specs.Prelude.{◌≡◌, ◌≢◌, ◌++◌, [], ℕ, IfOk, List, OnErr, OnOk, map};
+ghost use Rattle.std.specs.Prelude.{◌≡◌, ◌≢◌, ◌++◌, ◌∷◌, [], ℕ, IfOk, List, OnErr, OnOk, map};
 ghost use Rattle.bstr.specs.Owned.{bstring_bytes};
 ghost use Rattle.gixobj_signature.specs.Calls.{pair_view, plain, word_view};
 ghost use Rattle.gixobj_signature.specs.Pieces.{git_arguments, piece_view};
@@ -121,14 +121,31 @@ pub fn environment_of(
 }
 
 /// Copies the name and the value of an environment variable.
-pub(crate) fn pair_of(
-    alloc: Global,
-    name: &[u8],
-    value: &[u8],
-) -> Result<(BString, BString), OutOfMemory>
+fn pair_of(alloc: Global, name: &[u8], value: &[u8]) -> Result<(BString, BString), OutOfMemory>
     ensures { IfOk result (λ it. ◌≡◌ {A = List ℕ × List ℕ} (pair_view it) (name.now, value.now)) }
 {
     let name = BString::from_slice(alloc, name)?;
     let value = BString::from_slice(alloc, value)?;
     Ok((name, value))
+}
+
+/// Appends a copy of an environment variable.
+pub(crate) fn push_pair(
+    alloc: Global,
+    environment: &mut Vec<(BString, BString)>,
+    name: &[u8],
+    value: &[u8],
+) -> Result<(), OutOfMemory>
+    ensures { OnOk result (map pair_view environment.new.items
+        ≡ map pair_view environment.old.items ++ (name.now, value.now) ∷ []) }
+{
+    environment.push(pair_of(alloc, name, value)?)?;
+    Ok(())
+}
+
+/// Makes the list of one file, with a copy of these bytes.
+pub(crate) fn file_of(alloc: Global, bytes: &[u8]) -> Result<Vec<BString>, OutOfMemory>
+    ensures { IfOk result (λ it. map bstring_bytes it.items ≡ bytes.now ∷ []) }
+{
+    Ok(vec![in alloc; BString::from_slice(alloc, bytes)?]?)
 }

@@ -2,17 +2,17 @@
 ghost use Rattle.std.specs.Prelude.{◌≡◌, Err, IfOk, MatchOption, ⊤};
 ghost use Rattle.std.specs.Option.{option_map};
 ghost use Rattle.bstr.specs.Owned.{bstring_bytes};
-ghost use Rattle.gixobj_signature.specs.Calls.{answer_view};
+ghost use Rattle.gixobj_signature.specs.Calls.{answer_view, output_view};
 ghost use Rattle.gixobj_signature.specs.Plans.{AllocatesForCalls};
-ghost use Rattle.gixobj_signature.specs.Signing.{IsFailed, Signs, confirms, gpg_plan, is_return_before, written_signature, literal_key, not_run_view, sign_options_view, sign_plan, sign_view, signer_error, ssh_plan, without_returns};
+ghost use Rattle.gixobj_signature.specs.Signing.{IsFailed, Signs, confirms, gpg_plan, gpg_signed, is_return_before, written_signature, literal_key, not_run_view, sign_options_view, sign_plan, sign_view, signer_error, ssh_plan, ssh_signed, without_returns};
 
 mod calls;
 
-use crate::signature::{RunError, Runner};
+use crate::signature::{Output, RunError, Runner};
 use bstr::{BString, ByteSlice};
 use calls::{gpg_call_of, ssh_call_of};
+use gixobj_fields::signature::Format;
 use gixobj_hash::{OutOfMemory, decode};
-use gixobj_line::signature::Format;
 use gixobj_streams::encode;
 use std::alloc::Global;
 
@@ -143,12 +143,19 @@ fn sign_gpg<R: Runner>(
         runner.new }
 {
     let call = gpg_call_of(alloc, payload, &options)?;
-    let output = match runner.run(&call) {
-        Ok(output) => output,
-        Err(error) => return Err(not_run(error)),
-    };
+    match runner.run(&call) {
+        Ok(output) => gpg_signature_of(alloc, options.program, output),
+        Err(error) => Err(not_run(error)),
+    }
+}
+
+/// Returns the signature in the output of an OpenPGP or X.509 program.
+fn gpg_signature_of(alloc: Global, program: BString, output: Output) -> Result<BString, Error>
+    ensures { MatchOption (sign_view result) ⊤
+        (λ it. it ≡ gpg_signed (bstring_bytes program) (output_view output)) }
+{
     if !output.success {
-        return Err(failed(options.program, output.stderr));
+        return Err(failed(program, output.stderr));
     }
     if !is_confirmed(&output.stderr) {
         return Err(Error::MissingSignatureConfirmation);
@@ -167,12 +174,19 @@ fn sign_ssh<R: Runner>(
         runner.new }
 {
     let call = ssh_call_of(alloc, payload, &options)?;
-    let output = match runner.run(&call) {
-        Ok(output) => output,
-        Err(error) => return Err(not_run(error)),
-    };
+    match runner.run(&call) {
+        Ok(output) => ssh_signature_of(alloc, options.program, output),
+        Err(error) => Err(not_run(error)),
+    }
+}
+
+/// Returns the signature that an SSH program with this output wrote to a file.
+fn ssh_signature_of(alloc: Global, program: BString, output: Output) -> Result<BString, Error>
+    ensures { MatchOption (sign_view result) ⊤
+        (λ it. it ≡ ssh_signed (bstring_bytes program) (output_view output)) }
+{
     if !output.success {
-        return Err(failed(options.program, output.stderr));
+        return Err(failed(program, output.stderr));
     }
     written_signature_of(alloc, output.result)
 }

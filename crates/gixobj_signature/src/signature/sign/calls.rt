@@ -1,5 +1,5 @@
 //! The calls of programs that sign (gpg(1), `--detach-sign`; ssh-keygen(1), `-Y sign`).
-ghost use Rattle.std.specs.Prelude.{◌≡◌, IfOk, map};
+ghost use Rattle.std.specs.Prelude.{◌≡◌, ◌∷◌, [], IfOk, map};
 ghost use Rattle.bstr.specs.Owned.{bstring_bytes};
 ghost use Rattle.gixobj_signature.specs.Calls.{call_view, word_view};
 ghost use Rattle.gixobj_signature.specs.Signing.{gpg_call, leaving_call, literal_call, sign_options_view, path_call, ssh_call};
@@ -7,7 +7,7 @@ ghost use Rattle.gixobj_signature.specs.Signing.{gpg_call, leaving_call, literal
 use super::{Options, is_literal_ssh_key};
 use crate::signature::arguments::Piece::{File, Text};
 use crate::signature::arguments::{
-    arguments_with, environment_of, git_arguments_of, push_arguments,
+    arguments_with, environment_of, file_of, git_arguments_of, push_arguments,
 };
 use crate::signature::{Call, Word};
 use bstr::{BString, ByteSlice};
@@ -63,7 +63,7 @@ fn path_call_of(alloc: Global, payload: &[u8], options: &Options) -> Result<Call
     let mut words = git_arguments_of(alloc, &options.program_arguments, b"sign")?;
     let key = options.signing_key.as_bytes();
     push_arguments(alloc, &mut words, &[Text(b"-f"), Text(key), File(0)])?;
-    let files = vec![in alloc; BString::from_slice(alloc, payload)?]?;
+    let files = file_of(alloc, payload)?;
     call_of(alloc, options, words, files, 0)
 }
 
@@ -80,11 +80,17 @@ fn literal_call_of(
     let mut words = git_arguments_of(alloc, &options.program_arguments, b"sign")?;
     let pieces = [Text(b"-f"), File(0), Text(b"-U"), File(1)];
     push_arguments(alloc, &mut words, &pieces)?;
-    let files = vec![in alloc;
-        BString::from_slice(alloc, key)?,
-        BString::from_slice(alloc, payload)?,
-    ]?;
+    let files = key_and_payload(alloc, key, payload)?;
     call_of(alloc, options, words, files, 1)
+}
+
+/// Makes the list of two files, with copies of the key and of the payload.
+fn key_and_payload(alloc: Global, key: &[u8], payload: &[u8]) -> Result<Vec<BString>, OutOfMemory>
+    ensures { IfOk result (λ it. map bstring_bytes it.items ≡ key.now ∷ payload.now ∷ []) }
+{
+    let mut files = file_of(alloc, key)?;
+    files.push(BString::from_slice(alloc, payload)?)?;
+    Ok(files)
 }
 
 /// Makes a call with these arguments and files, which may write a signature next to the file of this index.

@@ -4,7 +4,7 @@ ghost use Rattle.std.specs.Option.{option_map};
 ghost use Rattle.bstr.specs.Owned.{bstring_bytes};
 ghost use Rattle.gixobj_signature.specs.Calls.{call_view, output_view, word_view};
 ghost use Rattle.gixobj_report.specs.Outcomes.{outcome_view};
-ghost use Rattle.gixobj_line.specs.declared.signature.Format.TheVariants as format;
+ghost use Rattle.gixobj_fields.specs.declared.signature.Format.TheVariants as format;
 ghost use Rattle.gixobj_signature.specs.SignedBytes.{signed_bytes};
 ghost use Rattle.gixobj_signature.specs.Verifiers.{by_open_pgp, by_x509, program_of};
 ghost use Rattle.gixobj_signature.specs.VerifyingCalls.{open_pgp_call, open_pgp_arguments, full_call, x509_call, x509_arguments};
@@ -13,11 +13,11 @@ ghost use Rattle.gixobj_signature.specs.Verifying.{IsOutcomeOf, gpg_verified, gp
 
 use super::{Error, Program, run_call};
 use crate::signature::arguments::Piece::{File, Text};
-use crate::signature::arguments::{arguments_with, environment_of};
+use crate::signature::arguments::{arguments_with, environment_of, file_of};
 use crate::signature::{Call, Output, Runner, SignedData, Word};
 use bstr::{BString, ByteSlice};
+use gixobj_fields::signature::Format;
 use gixobj_hash::OutOfMemory;
-use gixobj_line::signature::Format;
 use gixobj_report::report::{Outcome, evaluate, parse_gpg_output};
 use std::alloc::Global;
 
@@ -132,7 +132,7 @@ fn open_pgp_call_of(
         ≡ open_pgp_call (program_of by.now) signature.now (signed_bytes signed.now)) }
 {
     let words = open_pgp_arguments_of(alloc, by)?;
-    let files = vec![in alloc; BString::from_slice(alloc, signature)?]?;
+    let files = file_of(alloc, signature)?;
     let input = Some(signed.to_bstring(alloc)?);
     call_of(alloc, by, words, files, input)
 }

@@ -18,8 +18,8 @@ use super::{Error, SshProgram, run_call};
 use crate::signature::{Output, Runner, SignedData};
 use bstr::{BString, ByteSlice};
 use calls::{novalidate_call_of, principal_call_of, principals_call_of};
+use gixobj_fields::signature::Format;
 use gixobj_hash::OutOfMemory;
-use gixobj_line::signature::Format;
 use gixobj_report::report::{Outcome, TrustLevel, evaluate, parse_ssh_output};
 use std::alloc::Global;
 

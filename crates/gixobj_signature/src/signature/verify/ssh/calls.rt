@@ -9,7 +9,7 @@ ghost use Rattle.gixobj_signature.specs.VerifyingCalls.{in_english, novalidate_c
 
 use crate::signature::arguments::Piece::{File, Text, VerifyTime};
 use crate::signature::arguments::{
-    arguments_with, environment_of, git_arguments_of, pair_of, push_arguments,
+    arguments_with, environment_of, file_of, git_arguments_of, push_arguments, push_pair,
 };
 use crate::signature::verify::SshProgram;
 use crate::signature::{Call, SignedData, Word};
@@ -141,7 +141,7 @@ fn call_of(
 {
     let environment = english_of(alloc, by)?;
     let program = BString::from_slice(alloc, by.program.as_bytes())?;
-    let files = vec![in alloc; BString::from_slice(alloc, signature)?]?;
+    let files = file_of(alloc, signature)?;
     Ok(Call {
         program,
         words,
@@ -158,7 +158,7 @@ fn english_of(alloc: Global, by: &SshProgram) -> Result<Vec<(BString, BString)>,
         ≡ (in_english (ssh_program_of by.now)).environment) }
 {
     let mut environment = environment_of(alloc, &by.environment)?;
-    environment.push(pair_of(alloc, b"LANG", b"C")?)?;
-    environment.push(pair_of(alloc, b"LC_ALL", b"C")?)?;
+    push_pair(alloc, &mut environment, b"LANG", b"C")?;
+    push_pair(alloc, &mut environment, b"LC_ALL", b"C")?;
     Ok(environment)
 }

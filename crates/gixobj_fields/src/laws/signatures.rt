@@ -1,7 +1,7 @@
 //! Laws of signature markers. Each function is empty; its contract is the law.
 ghost use Rattle.std.specs.Prelude.{◌≡◌, ℕ, List};
-ghost use Rattle.gixobj_line.specs.Markers.{BeginsWithMarker, IsMarkerPlace};
-ghost use Rattle.gixobj_line.specs.declared.signature.Format.{Format};
+ghost use Rattle.gixobj_fields.specs.Markers.{BeginsWithMarker, IsMarkerPlace};
+ghost use Rattle.gixobj_fields.specs.declared.signature.Format.{Format};
 
 /// Bytes begin with a marker of at most one format.
 pub fn signature_format_is_unique()

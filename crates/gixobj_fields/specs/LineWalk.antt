@@ -1,8 +1,8 @@
 -- The backward walk over the lines that begin with the prefix of all markers.
 use Rattle.std.specs.Prelude.{◌≤◌, ◌<◌, ◌+◌, ℕ, List, ◌∷◌, Option, codes, length, take}
 use Rattle.bstr.specs.Find.{FindsLastNeedle}
-use Rattle.gixobj_line.specs.Markers.{HasMarkerAt}
-use Rattle.gixobj_line.specs.declared.signature.Format.{Format}
+use Rattle.gixobj_fields.specs.Markers.{HasMarkerAt}
+use Rattle.gixobj_fields.specs.declared.signature.Format.{Format}
 use Rattle.gixobj_hash.specs.Bytes.{newline}
 
 -- a newline and the prefix of all markers

@@ -6,10 +6,10 @@ use Rattle.std.proofs.lemmas.List.Elements.{All-get_or}
 use Rattle.std.specs.Prelude.{Some, None, codes}
 use Rattle.bstr.specs.Find.{OccursAt}
 use Rattle.gixobj_hash.proofs.Splits.{byte_free_of_all_pass}
-use Rattle.gixobj_line.proofs.MarkerPlaces.{begins_with_marker_at_position}
-use Rattle.gixobj_line.specs.LineWalk.{HasMarkerPrefixesBefore, IsLastMarkerPrefix, marker_prefix}
-use Rattle.gixobj_line.specs.Markers.{BeginsWithMarker, BeginsWithNoMarker, HasNoMarker, IsMarkerOf, IsMarkerPlace, HasMarkerAt, StartsLine, pgp_message, pgp_signature, signed_message, ssh_signature}
-use Rattle.gixobj_line.specs.declared.signature.Format.{Format}
+use Rattle.gixobj_fields.proofs.MarkerPlaces.{begins_with_marker_at_position}
+use Rattle.gixobj_fields.specs.LineWalk.{HasMarkerPrefixesBefore, IsLastMarkerPrefix, marker_prefix}
+use Rattle.gixobj_fields.specs.Markers.{BeginsWithMarker, BeginsWithNoMarker, HasNoMarker, IsMarkerOf, IsMarkerPlace, HasMarkerAt, StartsLine, pgp_message, pgp_signature, signed_message, ssh_signature}
+use Rattle.gixobj_fields.specs.declared.signature.Format.{Format}
 
 -- ---- a marker after a newline has its prefix
 

@@ -4,9 +4,9 @@ use Rattle.std.proofs.lemmas.Bool.Decides.{Decides-eqb}
 use Rattle.std.proofs.lemmas.Slice.Eq.{starts_is}
 use Rattle.std.specs.List.{starts_with}
 use Rattle.std.specs.Prelude.{codes, nat_eq}
-use Rattle.gixobj_line.specs.Markers.{BeginsWithMarker, IsMarkerOf, pgp_message, pgp_signature, signed_message, ssh_signature}
-use Rattle.gixobj_line.specs.declared.signature.Format.{Format}
-use Rattle.gixobj_line.specs.declared.signature.Format.TheVariants as format
+use Rattle.gixobj_fields.specs.Markers.{BeginsWithMarker, IsMarkerOf, pgp_message, pgp_signature, signed_message, ssh_signature}
+use Rattle.gixobj_fields.specs.declared.signature.Format.{Format}
+use Rattle.gixobj_fields.specs.declared.signature.Format.TheVariants as format
 
 begins_with_marker_of_starts_with : (format : Format) (marker bytes : List ℕ) → IsMarkerOf format marker → true ≡ starts_with nat_eq bytes marker
     → BeginsWithMarker format bytes

@@ -1,7 +1,7 @@
 -- The markers of signatures and their positions at line starts (gitformat-signature, "DESCRIPTION", "Tag signatures").
 use Rattle.std.specs.Prelude.{◌≡◌, ◌≤◌, ℕ, List, [], ◌∷◌, ◌++◌, ◌⊎◌, codes, length}
-use Rattle.gixobj_line.specs.declared.signature.Format.{Format}
-use Rattle.gixobj_line.specs.declared.signature.Format.TheVariants as format
+use Rattle.gixobj_fields.specs.declared.signature.Format.{Format}
+use Rattle.gixobj_fields.specs.declared.signature.Format.TheVariants as format
 use Rattle.gixobj_hash.specs.Bytes.{newline}
 
 -- a marker with which signatures of this format begin

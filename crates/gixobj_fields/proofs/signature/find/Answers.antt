@@ -1,6 +1,6 @@
 use Rattle.std.proofs.Common.{rules}
-use Rattle.gixobj_line.proofs.Prefixes.{marker_place_at_newline, marker_place_at_start, no_marker_of_no_prefix, prefixes_before_newline}
-use Rattle.gixobj_line.proofs.signature.find.Goals as goal
+use Rattle.gixobj_fields.proofs.Prefixes.{marker_place_at_newline, marker_place_at_start, no_marker_of_no_prefix, prefixes_before_newline}
+use Rattle.gixobj_fields.proofs.signature.find.Goals as goal
 
 pub returns-in-Some-from_signature-clause-found : goal.returns-in-Some-from_signature-clause-found
 returns-in-Some-from_signature-clause-found c =

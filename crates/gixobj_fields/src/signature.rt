@@ -1,7 +1,7 @@
 //! Formats and marker positions of armored signatures (gitformat-signature, "DESCRIPTION", "Tag signatures").
 ghost use Rattle.std.specs.Prelude.{◌≤◌, IfNone, IfSome, length};
-ghost use Rattle.gixobj_line.specs.LineWalk.{IsLastMarkerPrefix};
-ghost use Rattle.gixobj_line.specs.Markers.{HasNoMarker, IsMarkerPlace};
+ghost use Rattle.gixobj_fields.specs.LineWalk.{IsLastMarkerPrefix};
+ghost use Rattle.gixobj_fields.specs.Markers.{HasNoMarker, IsMarkerPlace};
 
 use bstr::{BStr, ByteSlice};
 
@@ -18,7 +18,7 @@ pub enum Format {
 
 /// Initialization
 impl Format {
-    ghost use Rattle.gixobj_line.specs.Markers.{BeginsWithMarker, BeginsWithNoMarker};
+    ghost use Rattle.gixobj_fields.specs.Markers.{BeginsWithMarker, BeginsWithNoMarker};
 
     /// Returns the format whose marker begins the signature, or `None` (gitformat-signature, "DESCRIPTION").
     ///
