@@ -14,14 +14,14 @@ pub use Rattle.gixobj_commit.specs.CommitViews
 pub use Rattle.gixobj_commit.specs.CommitWriting
 pub use Rattle.gixobj_commit.specs.ExtraHeaders
 pub use Rattle.gixobj_commit.specs.Mergetags
-pub use Rattle.gixobj_commit.specs.RemainingHeaders
-pub use Rattle.gixobj_commit.specs.RemainingParents
+pub use Rattle.gixobj_line.specs.RemainingHeaders
+pub use Rattle.gixobj_line.specs.RemainingParents
 pub use Rattle.gixobj_commit.specs.Rewriting
 pub use Rattle.gixobj_commit.specs.declared as commit
-pub use Rattle.gixobj_directories.specs.Calls
+pub use Rattle.gixobj_write.specs.Calls
 pub use Rattle.gixobj_directories.specs.LookedUp
 pub use Rattle.gixobj_directories.specs.Openings
-pub use Rattle.gixobj_directories.specs.WriteErrors
+pub use Rattle.gixobj_write.specs.WriteErrors
 pub use Rattle.gixobj_directories.specs.declared as directories
 pub use Rattle.gixobj_editor.specs.Causes
 pub use Rattle.gixobj_editor.specs.Commands
@@ -123,7 +123,7 @@ pub use Rattle.gixobj_report.specs.Outcomes
 pub use Rattle.gixobj_report.specs.SshReports
 pub use Rattle.gixobj_report.specs.Trust
 pub use Rattle.gixobj_report.specs.declared as report
-pub use Rattle.gixobj_signature.specs.Calls as ProgramCalls
+pub use Rattle.gixobj_report.specs.Calls as ProgramCalls
 pub use Rattle.gixobj_signature.specs.Plans
 pub use Rattle.gixobj_signature.specs.SignedBytes
 pub use Rattle.gixobj_signature.specs.Signing
@@ -169,3 +169,4 @@ pub use Rattle.gixobj_tree.specs.TreeSizes
 pub use Rattle.gixobj_tree.specs.TreeViews
 pub use Rattle.gixobj_tree.specs.WellFormed
 pub use Rattle.gixobj_tree.specs.declared as tree
+pub use Rattle.gixobj_write.specs.declared as write

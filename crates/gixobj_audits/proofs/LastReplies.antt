@@ -10,7 +10,7 @@ use Rattle.gix_object.specs.Stores.{StoreModel}
 use Rattle.gix_object.specs.commands.command.Command.{Command}
 use Rattle.gix_object.specs.commands.command.Command.TheVariants as command
 use Rattle.gix_object.specs.commands.command.Edit.TheVariants as edit
-use Rattle.gix_object.specs.editor.editor.error.Error.{Error}
+use Rattle.gix_object.specs.directories.error.Error.{Error}
 use Rattle.gix_object.specs.editor.reply.EditReply.{EditReply}
 use Rattle.gix_object.specs.editor.reply.EditReply.TheVariants as edit_reply
 use Rattle.gix_object.specs.editor.reply.Reply.{Reply}

@@ -15,7 +15,7 @@ use Rattle.gix_object.specs.RunTables.{AgreesWithObjects, AgreesWithRun}
 use Rattle.gix_object.specs.State.{EditorFiles, State, new_state, open_bases, open_dirs, root_alone}
 use Rattle.gix_object.specs.Stores.{Objects, StoreModel}
 use Rattle.gix_object.specs.Tables.{AgreesWithPairs, AgreesWithStore}
-use Rattle.gix_object.specs.directories.write.Written.{Written}
+use Rattle.gix_object.specs.write.write.Written.{Written}
 use Rattle.gix_object.specs.commands.command.Command.{Command}
 use Rattle.gix_object.specs.commands.command.Command.TheVariants as command
 use Rattle.gix_object.specs.commands.command.Edit.TheVariants as edit

@@ -20,7 +20,7 @@ use Rattle.gix_object.specs.Stores.{Objects, StoreModel}
 use Rattle.gix_object.specs.TreeEncoding.{IsDigestResult, encode_tree}
 use Rattle.gix_object.specs.Upserts.{directory_of}
 use Rattle.gix_object.specs.Removals.{IsRemovedUpTo}
-use Rattle.gix_object.specs.directories.write.Written.{Written}
+use Rattle.gix_object.specs.write.write.Written.{Written}
 use Rattle.gix_object.specs.commands.command.Edit.{Edit}
 use Rattle.gix_object.specs.commands.command.Edit.TheVariants as edit
 use Rattle.gix_object.specs.editor.reply.EditReply.TheVariants as reply

@@ -1,7 +1,7 @@
 //! The command that the program's arguments name.
 
-use crate::editor::Order;
 use crate::fault::Fault;
+use gixobj_bench_inputs::paths::Order;
 use std::env;
 use std::env::Args;
 use std::rt::Env;

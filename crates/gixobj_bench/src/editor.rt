@@ -1,7 +1,5 @@
 //! Rows of the editor: upserts of files into an empty tree, and the write of its trees.
 
-mod paths;
-
 use crate::clock::{Each, nanos_since};
 use crate::fault::Fault;
 use bstr::BString;
@@ -9,10 +7,9 @@ use gixobj_base::Tree;
 use gixobj_base::hash::Kind::Sha1;
 use gixobj_base::hash::ObjectId;
 use gixobj_base::tree::EntryKind;
+use gixobj_bench_inputs::paths::{Order, Shape, paths_of};
 use gixobj_editor::editor::Editor;
 use gixobj_find::find::Never;
-pub(crate) use paths::Order;
-use paths::{Shape, paths_of};
 use std::alloc::Global;
 use std::io;
 use std::io::Write;

@@ -1,5 +1,6 @@
 //! The errors that end a measurement, and their exit statuses.
 
+use gixobj_bench_inputs::objects;
 use std::alloc::{AllocError, AllocFailed};
 use std::io;
 
@@ -7,11 +8,11 @@ use std::io;
 #[derive(Debug, Drop, thiserror::Error)]
 pub(crate) enum Fault {
     /// The arguments name no command.
-    #[error("usage: gixobj_bench bench FILE ROUNDS | bodies ROUNDS | reports ROUNDS | editor ROUNDS")]
+    #[error("usage: gixobj_bench bench FILE ROUNDS | bodies ROUNDS | reports ROUNDS | editor ORDER ROUNDS")]
     Usage,
-    /// The file is malformed: it isn't a sequence of objects.
-    #[error("gixobj_bench: not a file of objects")]
-    NotObjects,
+    /// The file of objects isn't read, for this reason.
+    #[error("gixobj_bench: {0}")]
+    Objects(objects::Error),
     /// A call rejected its input, or an allocation failed in it.
     #[error("gixobj_bench: a call failed")]
     CallFailed,
@@ -36,6 +37,12 @@ impl Fault {
 impl From<io::Error> for Fault {
     fn from(error: io::Error) -> Fault {
         Fault::Failed(error)
+    }
+}
+
+impl From<objects::Error> for Fault {
+    fn from(error: objects::Error) -> Fault {
+        Fault::Objects(error)
     }
 }
 

@@ -8,7 +8,6 @@
 mod arguments;
 mod bodies;
 mod clock;
-mod corpus;
 mod editor;
 mod fault;
 mod objects;

@@ -4,7 +4,6 @@ ghost use Rattle.gixobj_bench.specs.Parts.{AllOfParts};
 
 mod parts;
 
-use crate::corpus::encodings_of;
 use crate::fault::Fault;
 use crate::rows::digesting::Digested;
 use crate::rows::into_owned::Owned;
@@ -16,6 +15,7 @@ use crate::rows::subject::Subject;
 use crate::rows::tree_lookup::LookedUp;
 use crate::rows::writing::{SizeRow, Written, WrittenToVec};
 use gixobj_base::Kind;
+use gixobj_bench_inputs::objects::encodings_of;
 use gixobj_codec::{Object, ObjectRef};
 use parts::{in_parts, length_of_messages, own_parts, read_parts, sum_of_lengths};
 use std::time::Clock;

@@ -16,7 +16,7 @@ use Rattle.gix_object.specs.RunTables.{AgreesWithObjects}
 use Rattle.gix_object.specs.State.{DirMap, EditorFiles, State, open_bases, open_dirs}
 use Rattle.gix_object.specs.Stores.{Objects, StoreModel}
 use Rattle.gix_object.specs.Tables.{AgreesWithPairs}
-use Rattle.gix_object.specs.directories.write.Written.{Written}
+use Rattle.gix_object.specs.write.write.Written.{Written}
 use Rattle.gix_object.specs.commands.command.Edit.{Edit}
 use Rattle.gix_object.specs.commands.command.Edit.TheVariants as edit
 use Rattle.gix_object.specs.editor.reply.EditReply.{EditReply}

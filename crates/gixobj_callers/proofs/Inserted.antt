@@ -14,8 +14,8 @@ use Rattle.gix_object.specs.Openings.{AreTreesOf, OfTrees}
 use Rattle.gix_object.specs.State.{EditorFiles, State, new_state, open_bases, open_dirs}
 use Rattle.gix_object.specs.Tables.{AgreesWithPairs, AgreesWithStore}
 use Rattle.gix_object.specs.Upserts.{IsUpserted, IsUpsertError}
-use Rattle.gix_object.specs.directories.write.Written.{Written}
-use Rattle.gix_object.specs.editor.editor.error.Error.{Error}
+use Rattle.gix_object.specs.write.write.Written.{Written}
+use Rattle.gix_object.specs.directories.error.Error.{Error}
 use Rattle.gix_object.specs.hash.hash.kind.Kind.{Kind}
 use Rattle.gixobj_callers.specs.Checkouts.{AreNotInserted, AreInserted, IsCheckedOut, IsFilled, IsMade, IsNotFilled, IsNotInsertedAt, IsInsertedAt, insert_at, steps_of_checkout}
 use Rattle.gixobj_callers.specs.declared.checkout.Planned.{Planned}

@@ -1,5 +1,5 @@
 -- An editor of a stored root, and the files of the named tree after an entry was inserted.
-use Rattle.std.proofs.Common.{◌≡◌, ◌≢◌, ◌⊎◌, ◌∙◌, ℕ, List, ap, subst, sym}
+use Rattle.std.proofs.Common.{◌≡◌, ◌≢◌, ◌⊎◌, ℕ, List, ap, subst, sym}
 use Rattle.std.specs.Prelude.{IsFalse}
 use Rattle.gix_object.specs.Entries.{Pair, EntryView}
 use Rattle.gix_object.specs.Bases.{HasBases}
@@ -11,8 +11,8 @@ use Rattle.gix_object.specs.Stores.{StoreModel}
 use Rattle.gix_object.specs.Tables.{AgreesWithPairs, AgreesWithStore}
 use Rattle.gix_object.specs.Upserts.{IsUpserted, IsUpsertError}
 use Rattle.gix_object.specs.Writes.{IsWrittenEditor}
-use Rattle.gix_object.specs.directories.write.Written.{Written}
-use Rattle.gix_object.specs.editor.editor.error.Error.{Error}
+use Rattle.gix_object.specs.write.write.Written.{Written}
+use Rattle.gix_object.specs.directories.error.Error.{Error}
 use Rattle.gix_object.specs.hash.hash.object_id.ObjectId.{ObjectId}
 use Rattle.gixobj_listings.proofs.Histories.{same_files_trans, upserted_congruent}
 use Rattle.gixobj_listings.proofs.Rooted.{root_named}

@@ -7,7 +7,7 @@ use Rattle.gix_object.specs.PlainRuns.{IdsDetermineFiles, IsPlainRun, files_befo
 use Rattle.gix_object.specs.PlainHistory.{NoFiles, PlainFilesAfter}
 use Rattle.gix_object.specs.Replies.{Answers, IsRun}
 use Rattle.gix_object.specs.State.{State, new_state}
-use Rattle.gix_object.specs.directories.write.Written.{Written}
+use Rattle.gix_object.specs.write.write.Written.{Written}
 use Rattle.gix_object.specs.commands.command.Command.{Command}
 use Rattle.gix_object.specs.editor.reply.Reply.{Reply}
 use Rattle.gix_object.specs.hash.hash.kind.Kind.{Kind}

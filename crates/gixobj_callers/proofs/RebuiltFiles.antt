@@ -13,7 +13,7 @@ use Rattle.gix_object.specs.RunTables.{AgreesWithRun, DecodesToItself}
 use Rattle.gix_object.specs.State.{EditorFiles, State, new_state, open_bases, open_dirs}
 use Rattle.gix_object.specs.Stores.{Objects, StoreModel}
 use Rattle.gix_object.specs.Tables.{AgreesWithPairs, IsConsistentWith}
-use Rattle.gix_object.specs.directories.write.Written.{Written}
+use Rattle.gix_object.specs.write.write.Written.{Written}
 use Rattle.gix_object.specs.commands.command.Command.{Command}
 use Rattle.gix_object.specs.editor.reply.Reply.{Reply}
 use Rattle.gix_object.specs.hash.hash.kind.Kind.{Kind}

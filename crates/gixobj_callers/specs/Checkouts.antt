@@ -11,8 +11,8 @@ use Rattle.gix_object.specs.Mode.{mode_of_kind}
 use Rattle.gix_object.specs.State.{State, open_bases, open_dirs}
 use Rattle.gix_object.specs.Upserts.{IsUpserted, IsUpsertError}
 use Rattle.gix_object.specs.Writes.{IsWrittenEditor}
-use Rattle.gix_object.specs.directories.write.Written.{Written}
-use Rattle.gix_object.specs.editor.editor.error.Error.{Error}
+use Rattle.gix_object.specs.write.write.Written.{Written}
+use Rattle.gix_object.specs.directories.error.Error.{Error}
 use Rattle.gixobj_callers.specs.declared.checkout.CheckoutError.{CheckoutError}
 use Rattle.gixobj_callers.specs.declared.checkout.CheckoutError.TheVariants as checkout
 use Rattle.gixobj_callers.specs.declared.checkout.Planned.{Planned}

@@ -10,8 +10,8 @@ use Rattle.gix_object.specs.Hash.{id_kind}
 use Rattle.gix_object.specs.State.{State, new_state, open_bases, open_dirs}
 use Rattle.gix_object.specs.Upserts.{IsUpserted, IsUpsertError}
 use Rattle.gix_object.specs.Writes.{IsWrittenEditor}
-use Rattle.gix_object.specs.directories.write.Written.{Written}
-use Rattle.gix_object.specs.editor.editor.error.Error.{Error}
+use Rattle.gix_object.specs.write.write.Written.{Written}
+use Rattle.gix_object.specs.directories.error.Error.{Error}
 use Rattle.gix_object.specs.hash.hash.object_id.ObjectId.{ObjectId}
 use Rattle.gixobj_callers.specs.declared.planner.PlanError.{PlanError}
 use Rattle.gixobj_callers.specs.declared.planner.PlanError.TheVariants as plan

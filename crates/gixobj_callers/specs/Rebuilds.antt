@@ -11,7 +11,7 @@ use Rattle.gix_object.specs.RunTables.{AgreesWithRun, DecodesToItself}
 use Rattle.gix_object.specs.State.{State, new_state}
 use Rattle.gix_object.specs.Stores.{Objects, StoreModel}
 use Rattle.gix_object.specs.Tables.{IsConsistentWith}
-use Rattle.gix_object.specs.directories.write.Written.{Written}
+use Rattle.gix_object.specs.write.write.Written.{Written}
 use Rattle.gix_object.specs.commands.command.Command.{Command}
 use Rattle.gix_object.specs.editor.reply.Reply.{Reply}
 use Rattle.gix_object.specs.hash.hash.kind.Kind as hash

@@ -2,10 +2,14 @@ mod BlockRows
 mod BlocksRows
 mod BodyParts
 mod CommitsExtracted
+mod HeadersFound
+mod MergetagsFound
 mod OwnedFields
 mod ReaderRuns
 mod ReceivedCommits
 mod ReceivedTags
+mod Reencoded
+mod Reencoding
 mod SameParts
 mod SignaturesFound
 mod SignersPayloads

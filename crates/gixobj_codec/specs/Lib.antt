@@ -13,8 +13,8 @@ pub use Rattle.gixobj_commit.specs.CommitViews
 pub use Rattle.gixobj_commit.specs.CommitWriting
 pub use Rattle.gixobj_commit.specs.ExtraHeaders
 pub use Rattle.gixobj_commit.specs.Mergetags
-pub use Rattle.gixobj_commit.specs.RemainingHeaders
-pub use Rattle.gixobj_commit.specs.RemainingParents
+pub use Rattle.gixobj_line.specs.RemainingHeaders
+pub use Rattle.gixobj_line.specs.RemainingParents
 pub use Rattle.gixobj_commit.specs.Rewriting
 pub use Rattle.gixobj_commit.specs.declared as commit
 pub use Rattle.gixobj_encode.specs.FieldWriting

@@ -1,5 +1,8 @@
 //! Laws of trees, commits, tags and stores. Most functions are empty, and their contract is the law.
 
+mod commits;
+mod headers;
+
 pub use crate::messages::{
     blocks_are_unique, message_split_is_unique, parts_append_to_body, readers_yield_all,
     trailer_block_start_is_unique, trailer_line_decodes, trailers_are_unique,
@@ -9,10 +12,9 @@ pub use crate::signed::{
     commit_payloads_are_signed, owned_commits_have_line_fields, signed_commit_has_payload,
     signed_tag_has_payload, tag_payloads_are_signed, tag_signatures_agree,
 };
-pub use gixobj_commit::laws::{
-    borrowed_header_search_complete, borrowed_mergetag_search_complete, commit_decode_encode_agree,
-    commit_decodes_uniquely, commit_reencodes_identically, owned_commit_has_same_parts,
-    owned_header_search_complete, owned_mergetag_search_complete,
+pub use commits::{
+    commit_decode_encode_agree, commit_decodes_uniquely, commit_reencodes_identically,
+    owned_commit_has_same_parts,
 };
 pub use gixobj_encode::laws::header_round_trips;
 pub use gixobj_hash::laws::hex_decodes_uniquely;
@@ -29,3 +31,7 @@ pub use gixobj_tag::laws::{
     tag_reencodes_identically,
 };
 pub use gixobj_tree::laws::{tree_decodes_uniquely, tree_reencodes_identically, tree_round_trips};
+pub use headers::{
+    borrowed_header_search_complete, borrowed_mergetag_search_complete,
+    owned_header_search_complete, owned_mergetag_search_complete,
+};

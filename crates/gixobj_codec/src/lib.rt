@@ -2,8 +2,8 @@
 //! stores (gitdatamodel, "trees", "commits", "tag objects"). Trees, commits and tags are decoded entirely or
 //! piece by piece.
 //!
-//! It re-exports the crates below it under the names that users know. Its own items are laws: those of messages,
-//! and that the payload found in a signed object is the one that the signer got (gitformat-signature).
+//! It re-exports the crates below it under the names that users know. Its own items are laws: those of commits and
+//! of messages, and that the payload found in a signed object is the one that the signer got (gitformat-signature).
 #![tactic(auto)]
 
 pub mod commit;

@@ -13,7 +13,7 @@ use Rattle.gixobj_hash.specs.Hash.{id_kind}
 use Rattle.gixobj_hash.specs.declared.decode.Error as decode
 use Rattle.gixobj_hash.specs.declared.hash.kind.Kind.{Kind}
 use Rattle.gixobj_line.specs.Commit.{CommitLines}
-use Rattle.gixobj_signature.specs.Calls.{Answer, CallView}
+use Rattle.gixobj_report.specs.Calls.{Answer, CallView}
 use Rattle.gixobj_signature.specs.Plans.{CarriesOut, IsCarriedOut}
 use Rattle.gixobj_signature.specs.Signing.{sign_options_view, sign_plan, signature, signer_error}
 use Rattle.gixobj_signature.specs.declared.signature.sign.Error.{Error}

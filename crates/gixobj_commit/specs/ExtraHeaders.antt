@@ -9,6 +9,7 @@ use Rattle.gixobj_hash.specs.HeaderFormat.{Header}
 use Rattle.gixobj_commit.specs.declared.extra_headers.ExtraHeaders.{ExtraHeaders}
 use Rattle.gixobj_commit.specs.declared.extra_headers.FindAll.{FindAll}
 use Rattle.gixobj_hash.specs.declared.hash.kind.Kind.{Kind}
+pub use Rattle.gixobj_line.specs.RemainingHeaders.{pair_of}
 
 -- the iterator that yields the headers
 abbrev pub iterator_of : {I : Type 0} → ExtraHeaders I → I
@@ -25,10 +26,6 @@ searched values = values.inner
 -- the name that is searched for
 abbrev pub searched_name : {I : Type 0} → FindAll I → List ℕ
 searched_name values = values.name.now
-
--- a yielded header: a name and a value
-abbrev pub pair_of : BStr × BStr → Header
-pair_of it = record { name = bstr_bytes it.0; value = bstr_bytes it.1 }
 
 -- the header of this name and this value
 abbrev pub header_at : List ℕ → BStr → Header

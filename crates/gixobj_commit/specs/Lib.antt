@@ -3,9 +3,7 @@ pub mod CommitSigning
 pub mod CommitViews
 pub mod CommitWriting
 pub mod ExtraHeaders
-pub mod RemainingHeaders
 pub mod Mergetags
-pub mod RemainingParents
 pub mod Rewriting
 pub use Rattle.gixobj_actor.specs.Actor
 pub use Rattle.gixobj_actor.specs.ActorWriting

@@ -1,22 +1,20 @@
 //! The extra headers of commits, searched by name: signatures (gitformat-signature, "Commit signatures") and
 //! merged tags (git-merge, "MERGING TAG").
-ghost use Rattle.std.specs.Prelude.{◌≡◌, ◌↔◌, ◌<◌, ◌^◌, IsTrue, codes, map};
+ghost use Rattle.std.specs.Prelude.{◌≡◌, ◌↔◌, ◌<◌, ◌^◌, IsTrue, codes};
 ghost use Rattle.bstr.specs.BStr.{bstr_bytes};
 ghost use Rattle.std.specs.Iterator.{IsFinite, MakesProgress, size};
-ghost use Rattle.gixobj_fields.specs.HeaderReading.{header_of, owned_header_of};
 ghost use Rattle.gixobj_commit.specs.ExtraHeaders.{FindsPosition, FindsValue, NextValue, hash_kind_of, iterator_of, searched, searched_name};
 ghost use Rattle.gixobj_line.specs.CommitSignatures.{signature_field};
-ghost use Rattle.gixobj_commit.specs.RemainingHeaders.{remaining_headers, remaining_owned_headers};
 ghost use Rattle.gixobj_commit.specs.Mergetags.{IsTagOf, mergetag_kind, mergetag_values};
 
-use bstr::{BStr, BString};
+use bstr::BStr;
 use gixobj_hash::decode::Error;
 use gixobj_hash::hash::Kind;
+pub use gixobj_line::extra_headers::{BorrowedHeaders, OwnedHeaders};
 pub use gixobj_line::headers::{
     SIGNATURE_FIELD_NAME, SIGNATURE_FIELD_NAME_SHA256, signature_field_name,
 };
 use gixobj_tag::TagRef;
-use std::borrow::CowSlice;
 
 /// The extra headers of a commit, searched by name. [`crate::CommitRef::extra_headers`] and
 /// [`crate::Commit::extra_headers`] return them.
@@ -218,74 +216,4 @@ fn next_value<'a, I: Iterator<Item = (BStr<'a>, BStr<'a>)>>(
         }
     }
     None
-}
-
-/// An iterator over the extra headers of a borrowed commit, in order, as pairs of name and value.
-#[derive(Clone, Copy)]
-pub struct BorrowedHeaders<'a, 'b> {
-    rest: &'a [(BStr<'b>, CowSlice<'b, u8>)],
-}
-
-impl<'a, 'b> BorrowedHeaders<'a, 'b> {
-    /// Returns an iterator over these headers, in order. Allocates nothing.
-    pub fn new(headers: &'a [(BStr<'b>, CowSlice<'b, u8>)]) -> BorrowedHeaders<'a, 'b>
-        ensures { remaining_headers result ≡ map header_of headers.now }
-    {
-        BorrowedHeaders { rest: headers }
-    }
-}
-
-/// Yields the next header. Allocates nothing.
-impl<'a, 'b> Iterator for BorrowedHeaders<'a, 'b> {
-    ghost use Rattle.std.specs.Iterator.{YieldsFirstBy, item_count};
-    ghost use Rattle.gixobj_commit.specs.ExtraHeaders.{pair_of};
-    ghost use Rattle.gixobj_commit.specs.RemainingHeaders.{remaining_headers};
-
-    type Item = (BStr<'a>, BStr<'a>);
-
-    ghost next_gives = { YieldsFirstBy pair_of remaining_headers };
-
-    ghost remaining = { item_count remaining_headers };
-
-    fn next(&mut self) -> Option<(BStr<'a>, BStr<'a>)> {
-        let [(name, value), rest @ ..] = self.rest else {
-            return None;
-        };
-        self.rest = rest;
-        Some((BStr::new(name.as_bytes()), BStr::new(value.as_slice())))
-    }
-}
-
-/// An iterator over the extra headers of an owned commit, in order, as pairs of name and value.
-#[derive(Clone, Copy)]
-pub struct OwnedHeaders<'a> {
-    rest: &'a [(BString, BString)],
-}
-
-impl<'a> OwnedHeaders<'a> {
-    /// Returns an iterator over these headers, in order. Allocates nothing.
-    pub fn new(headers: &'a [(BString, BString)]) -> OwnedHeaders<'a>
-        ensures { remaining_owned_headers result ≡ map owned_header_of headers.now }
-    {
-        OwnedHeaders { rest: headers }
-    }
-}
-
-/// Yields the next header. Allocates nothing.
-impl<'a> Iterator for OwnedHeaders<'a> {
-    ghost use Rattle.std.specs.Iterator.{YieldsFirstBy, item_count};
-    ghost use Rattle.gixobj_commit.specs.ExtraHeaders.{pair_of};
-    ghost use Rattle.gixobj_commit.specs.RemainingHeaders.{remaining_owned_headers};
-
-    type Item = (BStr<'a>, BStr<'a>);
-
-    ghost next_gives = { YieldsFirstBy pair_of remaining_owned_headers };
-
-    ghost remaining = { item_count remaining_owned_headers };
-
-    fn next(&mut self) -> Option<(BStr<'a>, BStr<'a>)> {
-        let ((name, value), rest) = self.rest.split_first()?;
-        self.rest = rest;
-        Some((name.as_bstr(), value.as_bstr()))
-    }
 }

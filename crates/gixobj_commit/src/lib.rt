@@ -4,12 +4,10 @@
 
 pub mod commit;
 mod extra_headers;
-pub mod laws;
-mod parents;
 
 pub use commit::{Commit, CommitRef};
 pub use extra_headers::{
     BorrowedHeaders, ExtraHeaders, FindAll, Mergetags, OwnedHeaders, SIGNATURE_FIELD_NAME,
     SIGNATURE_FIELD_NAME_SHA256, signature_field_name,
 };
-pub use parents::Parents;
+pub use gixobj_line::parents::Parents;

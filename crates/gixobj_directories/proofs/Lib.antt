@@ -1,13 +1,9 @@
-pub mod EntryWalks
-pub mod BegunFrames
 pub mod DecidableWellFormed
-pub mod Emitting
+pub mod InPart
 pub mod LookedUp
-pub mod Moves
 pub mod NamedTrees
 pub mod OpeningDescents
 pub mod OpeningSteps
-pub mod WrittenEntries
-pub mod StorablePairs
-pub mod TakenTrees
-pub mod WaitingFrames
+pub mod Paths
+pub mod Removing
+pub mod ValidNames

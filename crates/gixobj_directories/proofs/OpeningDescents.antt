@@ -23,7 +23,7 @@ use Rattle.gixobj_store.specs.Stores.{Objects}
 use Rattle.std.specs.Prelude.{reverse}
 use Rattle.bstr.specs.Owned.{bstring_bytes}
 use Rattle.bstr.specs.declared.bstring.BString.{BString}
-use Rattle.gixobj_directories.specs.Calls.{names_of}
+use Rattle.gixobj_open.specs.Paths.{names_of}
 use Rattle.std.specs.Cmp.Lexicographic.{bytes_decides}
 use Rattle.gixobj_open.proofs.BaseSteps.{opening, unmoved}
 use Rattle.gixobj_open.proofs.Descents.{at_ascent, at_descent, bases_at_ascent, in_dir_with_dir, is_descended_nil, is_descended_snoc, names_of_parts, names_of_take_more, with_dir_twice, with_path_append}

@@ -1,7 +1,5 @@
-pub mod Calls
-pub mod Frames
+pub mod EditNames
+pub mod FailedOpenings
 pub mod LookedUp
-pub mod Moves
 pub mod Openings
-pub mod TakenTrees
-pub mod WriteErrors
+pub mod RemovalErrors

@@ -1,10 +1,9 @@
-//! Open directories and the store: openings of directories whose trees are looked up, and writes.
+//! Open directories and the store: openings of directories whose trees are looked up, for edits and for removals,
+//! with the names of their paths and their errors.
 #![tactic(auto)]
 
-mod frames;
+pub mod error;
 pub mod laws;
-mod moving;
+pub mod names;
 pub mod opening;
-mod taken_trees;
-mod walk;
-pub mod write;
+pub mod removal;

@@ -10,7 +10,7 @@ ghost use Rattle.gixobj_files.specs.OpeningStops.{StopsOpening};
 ghost use Rattle.gixobj_files.specs.Opening.{IsOpened};
 ghost use Rattle.gixobj_files.specs.Tables.{IsNeverLookedUp};
 ghost use Rattle.gixobj_hash.specs.declared.hash.object_id.ObjectId.{ObjectId};
-ghost use Rattle.gixobj_directories.specs.Calls.{names_of};
+ghost use Rattle.gixobj_open.specs.Paths.{names_of};
 ghost use Rattle.gixobj_files.specs.Bases.{opened_bases};
 ghost use Rattle.gixobj_open.specs.Descents.{AreAbove, KeepsOpen, top_of};
 ghost use Rattle.gixobj_open.specs.Nested.{bases_of, dirs_of};

@@ -5,7 +5,7 @@ use Rattle.std.proofs.lemmas.List.Elements.{All-take, recursion_from_All}
 use Rattle.std.proofs.Math.Seq.{take-append_seam}
 use Rattle.std.specs.List.{flat_map}
 use Rattle.std.specs.Prelude.{Some, map}
-use Rattle.gixobj_directories.specs.declared.write.Written.{Written}
+use Rattle.gixobj_write.specs.declared.write.Written.{Written}
 use Rattle.gixobj_edit.specs.Edits.{AreEncodableIfDone, HasFilesAfter, HasFilesOfWrites, HasRun, IsCommandsOf, IsEdited, IsEmitted, IsStart, command_steps, write_of_root}
 use Rattle.gixobj_edit.specs.Frames.{objects_of}
 use Rattle.gixobj_edit.specs.Replies.{AreDone, EndsInWrite}

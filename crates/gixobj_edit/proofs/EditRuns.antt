@@ -4,8 +4,8 @@ use Rattle.std.proofs.Common.{◌≡◌, ◌∷◌, ◌++◌, ◌∙◌, All, Li
 use Rattle.std.proofs.lemmas.List.Elements.{All-append, All-nil}
 use Rattle.std.specs.List.{AllByRecursion, flat_map}
 use Rattle.std.specs.Prelude.{None, Option, Some, map}
-use Rattle.gixobj_directories.specs.Calls.{names_of}
-use Rattle.gixobj_directories.specs.declared.write.WriteError.TheVariants as write
+use Rattle.gixobj_write.specs.Calls.{names_of}
+use Rattle.gixobj_write.specs.declared.write.WriteError.TheVariants as write
 use Rattle.gixobj_edit.specs.Edits.{command_steps, edit_steps, write_of_root}
 use Rattle.gixobj_edit.specs.Replies.{EndsInWrite, IsReplyToWrite, edit_reply_failure, edits_failure, or_later, reply_failure}
 use Rattle.gixobj_edit.specs.declared.failure.Failure.{Failure}

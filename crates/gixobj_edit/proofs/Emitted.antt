@@ -7,8 +7,8 @@ use Rattle.std.specs.Fn.{FnReturnsAt, Shared}
 use Rattle.std.specs.List.{flat_map}
 use Rattle.std.specs.Prelude.{None, Option, Result, Some, option_copied, slice_get}
 use denote.Ref.{Bor}
-use Rattle.gixobj_directories.specs.declared.write.WriteError.TheVariants as write
-use Rattle.gixobj_directories.specs.declared.write.Written.{Written}
+use Rattle.gixobj_write.specs.declared.write.WriteError.TheVariants as write
+use Rattle.gixobj_write.specs.declared.write.Written.{Written}
 use Rattle.gixobj_edit.specs.Edits.{HasRun, IsCommandsOf, IsEditError, IsEmitted, IsRepliesError, IsStart, IsStartError}
 use Rattle.gixobj_edit.specs.Frames.{HoldsFrames, encode_frame}
 use Rattle.gixobj_edit.specs.Replies.{AreDone, EndsInWrite, IsReplyToWrite, written_id}

@@ -3,7 +3,7 @@ use Rattle.std.specs.Prelude.{◌≡◌, ◌<◌, ◌+◌, ◌++◌, ◌∷◌, 
 use Rattle.std.specs.List.{flat_map}
 use Rattle.gixobj_calls.specs.Buffers.{HasPrefix, WritesTwo}
 use Rattle.gixobj_calls.specs.Codes.{buffer_too_short, not_found, unknown_code}
-use Rattle.gixobj_directories.specs.declared.write.Written.{Written}
+use Rattle.gixobj_write.specs.declared.write.Written.{Written}
 use Rattle.gixobj_edit.specs.Failures.{failure_status}
 use Rattle.gixobj_edit.specs.Frames.{AreFrames, IsFramesError, encode_frame, objects_of}
 use Rattle.gixobj_edit.specs.Replies.{AreDone, IsFirstFailure}

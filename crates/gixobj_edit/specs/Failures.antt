@@ -3,8 +3,8 @@ use Rattle.std.specs.Prelude.{ℕ}
 use Rattle.gixobj_calls.specs.Codes.{bad_line, invalid_name, is_directory, malformed, malformed_tree, not_encodable, not_found, out_of_memory}
 use Rattle.gixobj_edit.specs.declared.failure.Failure.{Failure}
 use Rattle.gixobj_edit.specs.declared.failure.Failure.TheVariants as failure
-use Rattle.gixobj_editor.specs.declared.editor.error.Error.{Error}
-use Rattle.gixobj_editor.specs.declared.editor.error.Error.TheVariants as editing
+use Rattle.gixobj_directories.specs.declared.error.Error.{Error}
+use Rattle.gixobj_directories.specs.declared.error.Error.TheVariants as editing
 use Rattle.gixobj_streams.specs.declared.encode.Error as encode
 use Rattle.gixobj_streams.specs.declared.encode.Error.TheVariants as encode_error
 use Rattle.gixobj_hash.specs.declared.decode.Error.TheVariants as decode

@@ -1,6 +1,6 @@
 -- Replies to the commands of a script, and to the write after them.
 use Rattle.std.specs.Prelude.{◌≡◌, ◌++◌, ◌∷◌, ℕ, All, List, [], None, Option, Some, length, ⊤}
-use Rattle.gixobj_directories.specs.declared.write.WriteError.TheVariants as write
+use Rattle.gixobj_write.specs.declared.write.WriteError.TheVariants as write
 use Rattle.gixobj_edit.specs.Failures.{edit_failure, encode_failure, keep_failure}
 use Rattle.gixobj_edit.specs.declared.failure.Failure.{Failure}
 use Rattle.gixobj_edit.specs.declared.failure.Failure.TheVariants as failure

@@ -1,7 +1,7 @@
 //! Edits of stored trees by a script.
 ghost use Rattle.std.specs.Prelude.{◌≡◌, ◌++◌, ◌∷◌, [], List, IfErr, IfOk, Some};
 ghost use Rattle.gixobj_calls.specs.Codes.{hash_of_code as hash_of};
-ghost use Rattle.gixobj_directories.specs.declared.write.Written.{Written};
+ghost use Rattle.gixobj_write.specs.declared.write.Written.{Written};
 ghost use Rattle.gixobj_edit.specs.Edits.{AreEncodableIfDone, HasFilesOfWrites, HasRun, IsCommandsOf, IsEditCall, IsEditError, IsEdited, IsEmitted, IsRepliesError, IsScriptFailure, IsStart, IsStartError, WritesFailure};
 ghost use Rattle.gixobj_edit.specs.Replies.{AreDone, EndsInWrite};
 ghost use Rattle.gixobj_editor.specs.declared.reply.EditReply.TheVariants as edit_reply;

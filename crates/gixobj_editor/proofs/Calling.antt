@@ -4,11 +4,11 @@ use Rattle.std.proofs.Common.{◌≡◌, ◌∙◌, List, [], ◌∷◌, Err, Ok
 use Rattle.std.specs.Fn.{Called, CalledAt, FnReturnsAt, Mut, Shared}
 use Rattle.std.specs.List.{FoldsTo}
 use denote.Ref.{Bor}
-use Rattle.gixobj_directories.specs.Calls.{IsCallableOnTrees, IsStorable}
-use Rattle.gixobj_directories.specs.WriteErrors.{IsWriteError}
-use Rattle.gixobj_directories.specs.declared.write.Written.{Written}
-use Rattle.gixobj_directories.specs.declared.write.WriteError.{WriteError}
-use Rattle.gixobj_directories.specs.declared.write.WriteError.TheVariants as write
+use Rattle.gixobj_write.specs.Calls.{IsCallableOnTrees, IsStorable}
+use Rattle.gixobj_write.specs.WriteErrors.{IsWriteError}
+use Rattle.gixobj_write.specs.declared.write.Written.{Written}
+use Rattle.gixobj_write.specs.declared.write.WriteError.{WriteError}
+use Rattle.gixobj_write.specs.declared.write.WriteError.TheVariants as write
 use Rattle.gixobj_editor.specs.Cursors.{IsWrittenBelow}
 use Rattle.gixobj_editor.specs.Writes.{IsWrittenEditor}
 use Rattle.gixobj_files.specs.Files.{Path}

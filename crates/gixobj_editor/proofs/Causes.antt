@@ -10,7 +10,7 @@ use Rattle.gixobj_editor.specs.Cursors.{IsEnsured}
 use Rattle.gixobj_editor.specs.Replies.{Answers, IsEditReply, IsReply, reply_to}
 use Rattle.gixobj_commands.specs.declared.command.Command.{Command}
 use Rattle.gixobj_commands.specs.declared.command.Edit.{Edit}
-use Rattle.gixobj_editor.specs.declared.editor.error.Error.{Error}
+use Rattle.gixobj_directories.specs.declared.error.Error.{Error}
 use Rattle.gixobj_editor.specs.declared.reply.EditReply.{EditReply}
 use Rattle.gixobj_editor.specs.declared.reply.Reply.{Reply}
 use Rattle.gixobj_editor.specs.declared.reply.Reply.TheVariants as reply

@@ -15,14 +15,15 @@ use Rattle.gixobj_files.proofs.StillOpenedOpenings.{opens_keeps_open_lists}
 use Rattle.gixobj_hash.specs.Hash.{null_id}
 use Rattle.gixobj_hash.specs.declared.hash.object_id.ObjectId.{ObjectId}
 use Rattle.gixobj_entries.specs.Entries.{EntryView}
-use Rattle.gixobj_editor.specs.Cursors.{from_root}
+use Rattle.gixobj_directories.specs.EditNames.{from_root, directory_of}
 use Rattle.gixobj_editor.specs.Removals.{IsRemovedUpTo}
 use Rattle.gixobj_files.specs.Bases.{opened_bases}
 use Rattle.gixobj_directories.specs.declared.opening.NotLookedUp.TheVariants as not_looked_up
-use Rattle.gixobj_editor.specs.Upserts.{IsUpserted, directory_of}
-use Rattle.gixobj_editor.specs.FailedEdits.{IsAfterFailedEdit, IsLookupError}
-use Rattle.gixobj_editor.specs.declared.editor.error.Error.{Error}
-use Rattle.gixobj_editor.proofs.InPart.{none_in_part}
+use Rattle.gixobj_editor.specs.Upserts.{IsUpserted}
+use Rattle.gixobj_directories.specs.FailedOpenings.{IsLookupError}
+use Rattle.gixobj_editor.specs.FailedEdits.{IsAfterFailedEdit}
+use Rattle.gixobj_directories.specs.declared.error.Error.{Error}
+use Rattle.gixobj_directories.proofs.InPart.{none_in_part}
 
 -- if each open directory is still open, this one is
 open_of_unchanged_at : (old new : Dirs) (at : Path) → ((entries : List EntryView) → old at ≡ Some entries → new at ≡ Some entries) → old at ≢ None

@@ -1,5 +1,5 @@
 -- The record of an edit follows from its effect on the open directories; the proofs of the editor's calls use it.
-use Rattle.std.proofs.Common.{◌≡◌, ◌≢◌, ◌∙◌, inl, inr, ℕ, Bool, true, List, [], ◌∷◌, ◌++◌, Option, Some, None, Result, Ok, Err, refl, sym, ap, subst}
+use Rattle.std.proofs.Common.{◌≡◌, ◌≢◌, ◌∙◌, inl, ℕ, Bool, true, List, [], ◌∷◌, ◌++◌, Option, Some, None, Result, Ok, Err, refl, sym, ap, subst}
 use Rattle.std.proofs.lemmas.Cmp.{lists_total, nat_list_cmp_total}
 use Rattle.std.proofs.lemmas.List.Elements.{All-nil, recursion_from_All}
 use Rattle.std.specs.Prelude.{IfOk, OnOk}
@@ -25,7 +25,7 @@ use Rattle.gixobj_files.proofs.StillOpened.{is_opened_upserted}
 use Rattle.gixobj_files.proofs.StillOpenedOpenings.{is_opened_of_opens, opens_keeps_open_lists}
 use Rattle.gixobj_files.proofs.UnopenedCounts.{IsIdle, requested_count}
 use Rattle.gixobj_files.proofs.UpsertedFiles.{IsReady, upserted_dirs_files}
-use Rattle.gixobj_directories.specs.Calls.{AreNames}
+use Rattle.gixobj_open.specs.Paths.{AreNames}
 use Rattle.gixobj_open.specs.Nested.{Opened, base_side, bases_of, dirs_of, entries_side, side_list}
 use Rattle.gixobj_directories.specs.Openings.{EndsBefore, IsOpenErrorAt}
 use Rattle.gixobj_open.proofs.BaseSteps.{editing as when_edited, base_none_where_unopened, opening as when_opened, unmoved}
@@ -35,12 +35,15 @@ use Rattle.gixobj_files.specs.Bases.{AreOpenedOn, base_edited, base_opened, edit
 use Rattle.gixobj_files.proofs.Calls.{opened_based, upserted_based}
 use Rattle.gixobj_directories.specs.declared.opening.Error as directory
 use Rattle.gixobj_directories.specs.declared.opening.Error.TheVariants as opening
-use Rattle.gixobj_editor.specs.Upserts.{IsUpserted, IsEntryNameError, IsFirstNameError, IsUpsertError, directory_of}
-use Rattle.gixobj_editor.specs.FailedEdits.{OpensInPart, IsAfterFailedEdit, IsLookupError, edit_error}
-use Rattle.gixobj_editor.specs.declared.editor.error.Error.{Error}
-use Rattle.gixobj_editor.specs.declared.editor.error.Error.TheVariants as error
-use Rattle.gixobj_editor.proofs.InPart.{halted_in_part, none_in_part, opened_in_part}
-use Rattle.gixobj_editor.proofs.Paths.{directory_of_snoc, prefix_extends}
+use Rattle.gixobj_directories.specs.EditNames.{IsFirstNameError, directory_of}
+use Rattle.gixobj_editor.specs.Upserts.{IsUpserted, IsUpsertError}
+use Rattle.gixobj_directories.specs.FailedOpenings.{OpensInPart, IsLookupError, edit_error}
+use Rattle.gixobj_editor.specs.FailedEdits.{IsAfterFailedEdit}
+use Rattle.gixobj_directories.specs.declared.error.Error.{Error}
+use Rattle.gixobj_directories.specs.declared.error.Error.TheVariants as error
+use Rattle.gixobj_directories.proofs.InPart.{halted_in_part, none_in_part, opened_in_part}
+use Rattle.gixobj_directories.proofs.ValidNames.{no_other_error}
+use Rattle.gixobj_directories.proofs.Paths.{directory_of_snoc, prefix_extends}
 
 -- the open directories of an editor
 abbrev pub map_of : Opened → DirMap
@@ -202,21 +205,6 @@ is_upserted_unchanged {S} trees old path none mode id all idle = subst (λ p. Is
       files = λ T k agrees. same_files_refl (EditorFiles T k old);
       has_bases = λ T agrees has. has;
     }
-
--- an invalid name has no other error
-pub no_other_error : (path : Path) (failure : Error) → ((name : List ℕ) → IsEntryNameError name failure → ⊥) → IsFirstNameError path failure → ⊥
-no_other_error [] failure never h = h
-no_other_error (name ∷ path) failure never (inl h) = never name h
-no_other_error (name ∷ path) failure never (inr h) = no_other_error path failure never h.1
-
--- the error of an invalid name isn't one of a lookup
-pub no_lookup_of_name : (path : Path) (failure : Error) → IsFirstNameError path failure → ¬ IsLookupError failure
-no_lookup_of_name path error.EmptyPathComponent h = λ it. it
-no_lookup_of_name path error.SlashInPathComponent h = λ it. it
-no_lookup_of_name path (error.FindExistingObject cause) h = absurd (no_other_error path (error.FindExistingObject cause) (λ name k. k) h)
-no_lookup_of_name path (error.CannotRemoveNonLeaf at) h = λ it. it
-no_lookup_of_name path error.MalformedTree h = absurd (no_other_error path error.MalformedTree (λ name k. k) h)
-no_lookup_of_name path error.OutOfMemory h = λ it. it
 
 pub upsert_error_of_name : (objects : Objects) (may_fail : ObjectId → Bool) (trees : Trees) (dirs : Dirs) (path : Path) (failure : Error)
     → IsFirstNameError path failure → IsUpsertError objects may_fail trees dirs path failure

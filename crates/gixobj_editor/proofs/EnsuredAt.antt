@@ -4,7 +4,7 @@ use Rattle.std.proofs.Common.{◌≡◌, ◌≢◌, ◌∙◌, ℕ, Bool, List, 
 use Rattle.std.proofs.lemmas.List.Elements.{recursion_from_All}
 use Rattle.std.specs.List.{AllByRecursion}
 use Rattle.gixobj_store.specs.Stores.{Objects}
-use Rattle.gixobj_directories.specs.Calls.{AreNames}
+use Rattle.gixobj_open.specs.Paths.{AreNames}
 use Rattle.gixobj_open.specs.Nested.{Opened, dirs_of}
 use Rattle.gixobj_directories.specs.Openings.{IsOpenErrorAt}
 use Rattle.gixobj_directories.specs.declared.opening.Error as directory
@@ -28,13 +28,14 @@ use Rattle.gixobj_hash.specs.declared.hash.object_id.ObjectId.{ObjectId}
 use Rattle.gixobj_entries.specs.Entries.{EntryView}
 use Rattle.gixobj_tree.specs.WellFormed.{IsEntryName}
 use Rattle.gixobj_editor.specs.Cursors.{IsEnsured, IsCursorError}
-use Rattle.gixobj_editor.specs.Upserts.{IsFirstNameError}
-use Rattle.gixobj_editor.specs.FailedEdits.{edit_error}
-use Rattle.gixobj_editor.specs.declared.editor.error.Error.{Error}
-use Rattle.gixobj_editor.specs.declared.editor.error.Error.TheVariants as error
-use Rattle.gixobj_editor.proofs.Edited.{EditedSo, OpenedOn, OpenedSo, map_is_opened, no_tree_is_idle, map_dirs_at, edited_bases_of_map, tree_known_above, map_bases, map_dirs, no_other_error, map_is_opened_on, map_dirs_eq, state_of}
+use Rattle.gixobj_directories.specs.EditNames.{IsFirstNameError}
+use Rattle.gixobj_directories.specs.FailedOpenings.{edit_error}
+use Rattle.gixobj_directories.specs.declared.error.Error.{Error}
+use Rattle.gixobj_directories.specs.declared.error.Error.TheVariants as error
+use Rattle.gixobj_directories.proofs.ValidNames.{no_other_error}
+use Rattle.gixobj_editor.proofs.Edited.{EditedSo, OpenedOn, OpenedSo, map_is_opened, no_tree_is_idle, map_dirs_at, edited_bases_of_map, tree_known_above, map_bases, map_dirs, map_is_opened_on, map_dirs_eq, state_of}
 use Rattle.gixobj_files.proofs.Calls.{ensured_based}
-use Rattle.gixobj_editor.proofs.Paths.{prefix_extends}
+use Rattle.gixobj_directories.proofs.Paths.{prefix_extends}
 
 pub is_opened_after_ensured : (path : Path) (null : ObjectId) (mid ds : Opened) → AllByRecursion IsEntryName path → IsOpened (dirs_of mid)
     → ((at : Path) → dirs_of ds at ≡ ensured_dirs path null (dirs_of mid) at) → IsOpened (dirs_of ds)

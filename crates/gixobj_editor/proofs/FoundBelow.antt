@@ -5,7 +5,7 @@ use Rattle.gixobj_files.specs.Edits.{entry_at}
 use Rattle.gixobj_files.specs.Files.{Path}
 use Rattle.gixobj_files.specs.Opening.{Dirs, in_path}
 use Rattle.gixobj_files.proofs.OpenPrefixes.{entry_at_in_path}
-use Rattle.gixobj_editor.specs.Cursors.{from_root}
+use Rattle.gixobj_directories.specs.EditNames.{from_root}
 
 pub entry_at_from_root : (prefix path : Path) (dirs inner : Dirs) → ((at : Path) → inner at ≡ dirs (prefix ++ at))
     → entry_at path inner ≡ entry_at (from_root prefix path) dirs

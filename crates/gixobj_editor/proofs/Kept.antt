@@ -2,7 +2,7 @@
 use Rattle.std.proofs.Common.{◌≡◌, ◌∙◌, ℕ, All, List, ap, subst, sym}
 use Rattle.gixobj_commands.specs.declared.command.Edit.TheVariants as edit
 use Rattle.gixobj_store.specs.Stores.{StoreModel, Objects}
-use Rattle.gixobj_directories.specs.declared.write.Written.{Written}
+use Rattle.gixobj_write.specs.declared.write.Written.{Written}
 use Rattle.gixobj_files.specs.State.{State, with_store}
 use Rattle.gixobj_entries.specs.Entries.{Pair}
 use Rattle.gixobj_hash.specs.declared.hash.object_id.ObjectId.{ObjectId}

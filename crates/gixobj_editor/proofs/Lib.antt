@@ -6,7 +6,6 @@ mod CursorPrefixes
 mod Edited
 mod EnsuredAt
 mod FoundBelow
-mod InPart
 mod Keeping
 mod Kept
 pub mod KeptPairs
@@ -14,13 +13,10 @@ mod Named
 pub mod OneId
 mod LongerRuns
 mod OpenedOn
-mod Paths
 pub mod PlainRuns
 mod RemovedAt
-mod Removing
 mod Replied
 pub mod Reported
 mod RootAlone
-pub mod ValidNames
 mod WrittenBelow
 mod WrittenOut

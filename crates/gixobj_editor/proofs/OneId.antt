@@ -10,8 +10,8 @@ use Rattle.gixobj_commands.specs.declared.command.Edit.{Edit}
 use Rattle.gixobj_commands.specs.declared.command.Edit.TheVariants as edit
 use Rattle.gixobj_store.specs.Stores.{StoreModel, Objects}
 use Rattle.gixobj_directories.proofs.NamedTrees.{trees_of_objects_exist}
-use Rattle.gixobj_directories.specs.Calls.{names_of}
-use Rattle.gixobj_directories.specs.declared.write.Written.{Written}
+use Rattle.gixobj_open.specs.Paths.{names_of}
+use Rattle.gixobj_write.specs.declared.write.Written.{Written}
 use Rattle.gixobj_editor.specs.Cursors.{cursor_path}
 use Rattle.gixobj_files.proofs.Calls.{root_alone_has_bases}
 use Rattle.gixobj_files.proofs.EditedFiles.{root_alone_at_root, root_alone_below_root}

@@ -8,7 +8,7 @@ use Rattle.gixobj_hash.specs.Hash.{null_id}
 use Rattle.gixobj_hash.specs.declared.hash.kind.Kind.{Kind}
 use Rattle.gixobj_hash.specs.declared.hash.kind.Kind.TheVariants as hash
 use Rattle.gixobj_hash.specs.declared.hash.object_id.ObjectId.{ObjectId}
-use Rattle.gixobj_directories.specs.Calls.{AreNames, IsStorable}
+use Rattle.gixobj_write.specs.Calls.{AreNames, IsStorable}
 use Rattle.gixobj_open.specs.Nested.{Opened, bases_of, dirs_of, opened}
 use Rattle.gixobj_open.proofs.BaseSteps.{base_none_where_unopened}
 use Rattle.gixobj_open.proofs.Steps.{dirs_of_childless}
@@ -21,8 +21,8 @@ use Rattle.gixobj_files.proofs.Calls.{ensured_null_based, are_null_based_of_none
 use Rattle.gixobj_files.proofs.StoppedOpenings.{halts_opens}
 use Rattle.gixobj_files.proofs.StillOpenedOpenings.{is_opened_of_opens}
 use Rattle.gixobj_store.specs.Stores.{Objects}
-use Rattle.gixobj_editor.specs.FailedEdits.{OpensInPart}
-use Rattle.gixobj_editor.specs.declared.editor.error.Error.{Error}
+use Rattle.gixobj_directories.specs.FailedOpenings.{OpensInPart}
+use Rattle.gixobj_directories.specs.declared.error.Error.{Error}
 use Rattle.gixobj_editor.proofs.EnsuredAt.{is_opened_after_ensured}
 use Rattle.gixobj_editor.proofs.Edited.{EditedSo, OpenedOn, OpenedSo, is_opened_after_upsert}
 use Rattle.gixobj_editor.proofs.RemovedAt.{is_opened_after_removal}

@@ -5,11 +5,12 @@ use Rattle.std.specs.FinMap as map
 use Rattle.std.specs.Prelude.{IsFalse}
 use Rattle.std.specs.List.{AllByRecursion}
 use Rattle.std.proofs.lemmas.List.Elements.{recursion_from_All}
-use Rattle.gixobj_directories.specs.Calls.{IsStorable}
-use Rattle.gixobj_directories.specs.declared.write.Written.{Written}
+use Rattle.gixobj_write.specs.Calls.{IsStorable}
+use Rattle.gixobj_write.specs.declared.write.Written.{Written}
 use Rattle.gixobj_editor.specs.Cursors.{IsEnsured, IsWrittenBelow}
 use Rattle.gixobj_editor.specs.Removals.{IsRemovedUpTo}
-use Rattle.gixobj_editor.specs.Upserts.{IsUpserted, directory_of}
+use Rattle.gixobj_directories.specs.EditNames.{directory_of}
+use Rattle.gixobj_editor.specs.Upserts.{IsUpserted}
 use Rattle.gixobj_editor.specs.FailedEdits.{IsAfterFailedEdit}
 use Rattle.gixobj_editor.specs.Writes.{IsWrittenEditor}
 use Rattle.gixobj_files.proofs.EnsuredFiles.{is_open_along_of_opens}
@@ -31,11 +32,11 @@ use Rattle.gixobj_files.specs.Tables.{AgreesWithPairs, AgreesWithStore}
 use Rattle.gixobj_hash.specs.Hash.{null_id}
 use Rattle.gixobj_hash.specs.declared.hash.object_id.ObjectId.{ObjectId}
 use Rattle.gixobj_store.specs.Stores.{StoreModel}
-use Rattle.gixobj_editor.specs.declared.editor.error.Error.{Error}
+use Rattle.gixobj_directories.specs.declared.error.Error.{Error}
 use Rattle.gixobj_entries.specs.Entries.{EntryView, Pair}
 use Rattle.gixobj_entries.specs.Mode.{is_tree_mode}
-use Rattle.gixobj_editor.proofs.Paths.{directory_of_snoc}
-use Rattle.gixobj_editor.proofs.Removing.{path_nil_or_snoc}
+use Rattle.gixobj_directories.proofs.Paths.{directory_of_snoc}
+use Rattle.gixobj_directories.proofs.Removing.{path_nil_or_snoc}
 
 abbrev no_trees : Trees
 no_trees = λ id. None

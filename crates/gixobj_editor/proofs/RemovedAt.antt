@@ -18,20 +18,22 @@ use Rattle.gixobj_files.proofs.RemovedFiles.{IsReached, removed_dirs_files}
 use Rattle.gixobj_files.proofs.StillOpenedOpenings.{is_opened_of_opens}
 use Rattle.gixobj_files.proofs.StillOpenedRemovals.{is_opened_removed}
 use Rattle.gixobj_files.proofs.UnopenedCounts.{IsIdle, requested_count}
-use Rattle.gixobj_editor.specs.Upserts.{directory_of}
-use Rattle.gixobj_editor.specs.FailedEdits.{IsAfterFailedEdit, IsLookupError}
-use Rattle.gixobj_editor.specs.declared.editor.error.Error.{Error}
-use Rattle.gixobj_editor.specs.declared.editor.error.Error.TheVariants as error
+use Rattle.gixobj_directories.specs.EditNames.{directory_of}
+use Rattle.gixobj_directories.specs.FailedOpenings.{IsLookupError}
+use Rattle.gixobj_editor.specs.FailedEdits.{IsAfterFailedEdit}
+use Rattle.gixobj_directories.specs.declared.error.Error.{Error}
+use Rattle.gixobj_directories.specs.declared.error.Error.TheVariants as error
 use Rattle.gixobj_store.specs.Stores.{StoreModel}
-use Rattle.gixobj_editor.specs.Removals.{IsLeafDirectoryError, IsRemovedUpTo}
+use Rattle.gixobj_directories.specs.RemovalErrors.{IsLeafDirectoryError}
+use Rattle.gixobj_editor.specs.Removals.{IsRemovedUpTo}
 use Rattle.gixobj_editor.proofs.Edited.{EditedSo, OpenedOn, OpenedSo, map_is_opened, edited_bases_of_map, tree_known_above, map_bases, map_dirs, no_error_above, map_is_opened_on, map_dirs_eq, state_of, stay_at}
 use Rattle.gixobj_directories.proofs.OpeningSteps.{ends_before_is_idle}
 use Rattle.gixobj_directories.specs.Openings.{EndsBefore}
 use Rattle.gixobj_directories.specs.declared.opening.NotLookedUp.{NotLookedUp}
 use Rattle.gixobj_files.proofs.Calls.{removed_based}
-use Rattle.gixobj_editor.proofs.InPart.{prefix_in_part}
-use Rattle.gixobj_editor.proofs.Paths.{directory_is_prefix, directory_of_snoc}
-use Rattle.gixobj_editor.proofs.Removing.{IsOpenedFor, path_nil_or_snoc}
+use Rattle.gixobj_directories.proofs.InPart.{prefix_in_part}
+use Rattle.gixobj_directories.proofs.Paths.{directory_is_prefix, directory_of_snoc}
+use Rattle.gixobj_directories.proofs.Removing.{IsOpenedFor, path_nil_or_snoc}
 
 no_queries_of_nil_path : {StopsBefore : EntryView → Type 0} (trees : Trees) (p : Path) → p ≡ [] → (old new : Dirs) (queries : List ObjectId)
     → Opens StopsBefore trees p old new queries → length queries ≡ 0

@@ -8,12 +8,12 @@ use Rattle.bstr.specs.declared.bstring.BString.{BString}
 use Rattle.gixobj_directories.specs.Openings.{OfTrees}
 use Rattle.gixobj_commands.specs.declared.command.Edit.{Edit}
 use Rattle.gixobj_commands.specs.declared.command.Edit.TheVariants as edit
-use Rattle.gixobj_directories.specs.Calls.{names_of}
+use Rattle.gixobj_open.specs.Paths.{names_of}
 use Rattle.gixobj_editor.specs.Cursors.{IsEnsured}
 use Rattle.gixobj_editor.specs.Removals.{IsLeafRemoved, IsRemoved, IsLeafRemovalError, IsRemovalError}
 use Rattle.gixobj_editor.specs.Upserts.{IsNameError, IsUpserted, IsUpsertError}
 use Rattle.gixobj_editor.specs.FailedEdits.{IsAfterFailedEdit}
-use Rattle.gixobj_editor.specs.declared.editor.error.Error.{Error}
+use Rattle.gixobj_directories.specs.declared.error.Error.{Error}
 use Rattle.gixobj_files.specs.Files.{Files, Path, SameFiles, Table, Trees}
 use Rattle.gixobj_files.specs.Bases.{HasBases}
 use Rattle.gixobj_store.specs.Stores.{StoreModel}

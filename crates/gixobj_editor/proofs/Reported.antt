@@ -9,7 +9,7 @@ use Rattle.gixobj_commands.specs.declared.command.Command.{Command}
 use Rattle.gixobj_commands.specs.declared.command.Command.TheVariants as command
 use Rattle.gixobj_commands.specs.declared.command.Edit.{Edit}
 use Rattle.gixobj_commands.specs.declared.command.Edit.TheVariants as edit
-use Rattle.gixobj_directories.specs.Calls.{names_of}
+use Rattle.gixobj_open.specs.Paths.{names_of}
 use Rattle.gixobj_editor.specs.Cursors.{cursor_path}
 use Rattle.gixobj_files.proofs.Canonical.{IsBuilt, same_trees}
 use Rattle.gixobj_files.proofs.EditedFiles.{root_alone_files, same_files_refl}

@@ -12,11 +12,11 @@ use Rattle.gixobj_files.specs.State.{State}
 use Rattle.gixobj_files.specs.Tables.{AgreesWithPairs}
 use Rattle.gixobj_files.proofs.EditedFiles.{root_alone_files, same_files_trans}
 use Rattle.gixobj_files.proofs.WrittenFiles.{known_append_left, known_append_right, emits_below_files, are_trees_of_opened}
-use Rattle.gixobj_directories.specs.Calls.{IsStorable}
+use Rattle.gixobj_write.specs.Calls.{IsStorable}
 use Rattle.gixobj_open.specs.Nested.{Opened, bases_of, dirs_of, opened}
 use Rattle.gixobj_open.proofs.Steps.{dirs_of_childless}
-use Rattle.gixobj_directories.proofs.StorablePairs.{emits_below_storable}
-use Rattle.gixobj_directories.specs.declared.write.Written.{Written}
+use Rattle.gixobj_write.proofs.StorablePairs.{emits_below_storable}
+use Rattle.gixobj_write.specs.declared.write.Written.{Written}
 use Rattle.gixobj_editor.specs.Writes.{IsWrittenEditor}
 use Rattle.gixobj_editor.proofs.Edited.{EditedSo, OpenedOn, map_dirs_at, map_bases, map_dirs, map_is_opened_on, only_edited_bases_of_map, map_bases_eq, map_dirs_eq, state_of}
 use Rattle.gixobj_files.specs.Bases.{HasBases, base_edited}

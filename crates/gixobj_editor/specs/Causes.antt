@@ -1,6 +1,6 @@
 -- The causes in replies to writes whose trees aren't all kept: each is an error of the store at that reply.
 use Rattle.std.specs.Prelude.{◌≡◌, List, [], ◌∷◌, ⊤}
-use Rattle.gixobj_directories.specs.Calls.{names_of}
+use Rattle.gixobj_open.specs.Paths.{names_of}
 use Rattle.gixobj_directories.specs.Openings.{OfTrees}
 use Rattle.gixobj_editor.specs.Commands.{Location, at_cursor}
 use Rattle.gixobj_editor.specs.Cursors.{IsEnsured, cursor_path}

@@ -5,9 +5,10 @@ use Rattle.gixobj_commands.specs.declared.command.Command.{Command}
 use Rattle.gixobj_commands.specs.declared.command.Command.TheVariants as command
 use Rattle.gixobj_commands.specs.declared.command.Edit.{Edit}
 use Rattle.gixobj_commands.specs.declared.command.Edit.TheVariants as edit
-use Rattle.gixobj_directories.specs.Calls.{names_of}
-use Rattle.gixobj_directories.specs.declared.write.Written.{Written}
-use Rattle.gixobj_editor.specs.Cursors.{from_root, cursor_path}
+use Rattle.gixobj_open.specs.Paths.{names_of}
+use Rattle.gixobj_write.specs.declared.write.Written.{Written}
+use Rattle.gixobj_directories.specs.EditNames.{from_root}
+use Rattle.gixobj_editor.specs.Cursors.{cursor_path}
 use Rattle.gixobj_files.specs.Files.{Path}
 use Rattle.gixobj_files.specs.History.{Step, ensure, remove, set_root, upsert}
 use Rattle.gixobj_entries.specs.Entries.{Pair}

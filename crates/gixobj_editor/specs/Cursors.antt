@@ -1,12 +1,12 @@
 -- Effects and errors of the calls of a cursor, which are those of its editor at paths from the root.
 pub mod Stores
-use Rattle.std.specs.Prelude.{◌≡◌, ◌≢◌, ◌⊎◌, ◌++◌, ℕ, Bool, List, [], ◌∷◌, All, None, Some}
+use Rattle.std.specs.Prelude.{◌≡◌, ◌≢◌, ◌⊎◌, ◌++◌, ℕ, Bool, List, [], ◌∷◌, All, Some}
 use Rattle.std.specs.List.{FoldsTo}
 use Rattle.gixobj_directories.specs.Openings.{OfTrees}
 use Rattle.gixobj_store.specs.Stores.{StoreModel, Objects}
-use Rattle.gixobj_directories.specs.Calls.{AreNames, IsStorable}
+use Rattle.gixobj_write.specs.Calls.{AreNames, IsStorable}
 use Rattle.gixobj_directories.specs.declared.opening.Error.TheVariants as opening
-use Rattle.gixobj_directories.specs.declared.write.Written.{Written}
+use Rattle.gixobj_write.specs.declared.write.Written.{Written}
 use Rattle.gixobj_files.specs.Bases.{HasBases, edited_bases, opened_bases}
 use Rattle.gixobj_files.specs.Edits.{IsNoTree, Opens, ensured_dirs, only_open, with_path, raised}
 use Rattle.gixobj_files.specs.Files.{Ensured, NamedFiles, Path, SameFiles, Table, Trees}
@@ -19,20 +19,18 @@ use Rattle.gixobj_files.specs.Unopened.{with_empty_name, unopened_count}
 use Rattle.gixobj_hash.specs.Hash.{null_id}
 use Rattle.gixobj_hash.specs.declared.hash.object_id.ObjectId.{ObjectId}
 use Rattle.gixobj_entries.specs.Entries.{EntryView, Pair}
-use Rattle.gixobj_editor.specs.Upserts.{IsFirstNameError, IsNameError, IsUnopenedError, EditErrors}
+use Rattle.gixobj_directories.specs.RemovalErrors.{EditErrors}
+use Rattle.gixobj_directories.specs.EditNames.{IsFirstNameError}
+use Rattle.gixobj_editor.specs.Upserts.{IsNameError, IsUnopenedError}
 use Rattle.gixobj_editor.specs.FailedEdits.{IsFailedEditIn}
-use Rattle.gixobj_editor.specs.declared.editor.error.Error.{Error}
-use Rattle.gixobj_editor.specs.declared.editor.error.Error.TheVariants as error
+use Rattle.gixobj_directories.specs.declared.error.Error.{Error}
+use Rattle.gixobj_directories.specs.declared.error.Error.TheVariants as error
+pub use Rattle.gixobj_directories.specs.EditNames.{from_root}
 
 -- the path of a cursor's directory: the root's if there are no names, or a single empty name; else the path itself
 abbrev pub cursor_path : Path → Path
 cursor_path ([] ∷ []) = []
 cursor_path path = path
-
--- the path from the root of a path from a cursor; it is empty for an empty path
-abbrev pub from_root : Path → Path → Path
-from_root prefix [] = []
-from_root prefix (name ∷ path) = prefix ++ name ∷ path
 
 -- the errors of a cursor at a path: that of the first invalid name. If each name is valid, that of an unopened
 -- directory at or above the path: the store doesn't have it as a well-formed tree, or its lookup fails. Or out of

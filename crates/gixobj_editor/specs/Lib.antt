@@ -9,7 +9,7 @@ pub mod RunTables
 pub mod Upserts
 pub mod Writes
 pub use Rattle.gixobj_commands.specs.Views
-pub use Rattle.gixobj_directories.specs.Calls
+pub use Rattle.gixobj_write.specs.Calls
 pub use Rattle.gixobj_directories.specs.Openings
 pub use Rattle.gixobj_files.specs.Files
 pub use Rattle.gixobj_files.specs.History

@@ -5,7 +5,7 @@ use Rattle.gixobj_commands.specs.declared.command.Command.TheVariants as command
 use Rattle.gixobj_commands.specs.declared.command.Edit.{Edit}
 use Rattle.gixobj_commands.specs.declared.command.Edit.TheVariants as edit
 use Rattle.gixobj_store.specs.Stores.{Objects}
-use Rattle.gixobj_directories.specs.declared.write.Written.{Written}
+use Rattle.gixobj_write.specs.declared.write.Written.{Written}
 use Rattle.gixobj_files.specs.Files.{FileSet, SameFiles, Table}
 use Rattle.gixobj_files.specs.PlainHistory.{NoFiles, PlainFilesAfter}
 use Rattle.gixobj_files.specs.State.{State, root_alone}

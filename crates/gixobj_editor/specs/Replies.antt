@@ -7,17 +7,17 @@ use Rattle.gixobj_commands.specs.declared.command.Command.TheVariants as command
 use Rattle.gixobj_commands.specs.declared.command.Edit.{Edit}
 use Rattle.gixobj_commands.specs.declared.command.Edit.TheVariants as edit
 use Rattle.gixobj_store.specs.Stores.{StoreModel, Objects}
-use Rattle.gixobj_directories.specs.Calls.{IsStorable, names_of}
-use Rattle.gixobj_directories.specs.WriteErrors.{IsWriteError}
-use Rattle.gixobj_directories.specs.declared.write.WriteError.{WriteError}
-use Rattle.gixobj_directories.specs.declared.write.Written.{Written}
+use Rattle.gixobj_write.specs.Calls.{IsStorable, names_of}
+use Rattle.gixobj_write.specs.WriteErrors.{IsWriteError}
+use Rattle.gixobj_write.specs.declared.write.WriteError.{WriteError}
+use Rattle.gixobj_write.specs.declared.write.Written.{Written}
 use Rattle.gixobj_editor.specs.Cursors.{IsEnsured, IsWrittenBelow, IsCursorError, IsCursorEditError, cursor_path}
 use Rattle.gixobj_editor.specs.Removals.{IsLeafRemoved, IsRemoved, IsLeafRemovalError, IsRemovalError}
 use Rattle.gixobj_editor.specs.Upserts.{IsNameError, IsUpserted, IsUpsertError}
 use Rattle.gixobj_editor.specs.FailedEdits.{IsFailedEditIn}
 use Rattle.gixobj_editor.specs.Writes.{IsWrittenEditor}
-use Rattle.gixobj_editor.specs.declared.editor.error.Error.{Error}
-use Rattle.gixobj_editor.specs.declared.editor.error.Error.TheVariants as editing
+use Rattle.gixobj_directories.specs.declared.error.Error.{Error}
+use Rattle.gixobj_directories.specs.declared.error.Error.TheVariants as editing
 use Rattle.gixobj_files.specs.Bases.{HasBases}
 use Rattle.gixobj_files.specs.Files.{Files, Path, SameFiles, Table, Trees}
 use Rattle.gixobj_files.specs.Emission.{EmitsSome}

@@ -1,7 +1,7 @@
 -- Effects and errors of upserts by an editor (git-update-index, `--cacheinfo`).
-use Rattle.std.specs.Prelude.{◌≡◌, ◌≢◌, ◌⊎◌, ◌++◌, ℕ, Bool, List, [], ◌∷◌, Contains, Some, ⊤}
+use Rattle.std.specs.Prelude.{◌≡◌, ◌≢◌, ◌⊎◌, ℕ, Bool, List, [], Some, ⊤}
 use Rattle.gixobj_store.specs.Stores.{StoreModel, Objects}
-use Rattle.gixobj_directories.specs.Calls.{AreNames}
+use Rattle.gixobj_open.specs.Paths.{AreNames}
 use Rattle.gixobj_directories.specs.Openings.{OfTrees, IsDirectoryError}
 use Rattle.gixobj_files.specs.Bases.{HasBases, edited_bases, opened_bases}
 use Rattle.gixobj_directories.specs.declared.opening.Error as directory
@@ -15,43 +15,11 @@ use Rattle.gixobj_files.specs.Tables.{AgreesWithStore}
 use Rattle.gixobj_files.specs.Unopened.{unopened_count}
 use Rattle.gixobj_hash.specs.Hash.{null_id}
 use Rattle.gixobj_hash.specs.declared.hash.object_id.ObjectId.{ObjectId}
-use Rattle.gixobj_hash.specs.Bytes.{slash}
 use Rattle.gixobj_entries.specs.Entries.{EntryView}
-use Rattle.gixobj_tree.specs.WellFormed.{IsEntryName}
-use Rattle.gixobj_editor.specs.declared.editor.error.Error.{Error}
-use Rattle.gixobj_editor.specs.declared.editor.error.Error.TheVariants as error
-
--- the path without its last name
-abbrev pub directory_of : Path → Path
-directory_of [] = []
-directory_of (name ∷ []) = []
-directory_of (name ∷ next ∷ rest) = name ∷ directory_of (next ∷ rest)
-
--- the error for an invalid name: it is empty, or it contains a slash
-abbrev pub IsEntryNameError : List ℕ → Error → Type 0
-IsEntryNameError name error.EmptyPathComponent = name ≡ []
-IsEntryNameError name error.SlashInPathComponent = (name ≢ []) × Contains name slash
-IsEntryNameError name (error.FindExistingObject cause) = ⊥
-IsEntryNameError name (error.CannotRemoveNonLeaf path) = ⊥
-IsEntryNameError name error.MalformedTree = ⊥
-IsEntryNameError name error.OutOfMemory = ⊥
-
--- the error for the first invalid name of a path
-abbrev pub IsFirstNameError : Path → Error → Type 0
-IsFirstNameError [] failure = ⊥
-IsFirstNameError (name ∷ path) failure = IsEntryNameError name failure
-    ⊎ (IsEntryName name × IsFirstNameError path failure)
-
--- if there is a first name, it is invalid
-abbrev pub StartsInvalid : Path → Type 0
-StartsInvalid [] = ⊤
-StartsInvalid (name ∷ path) = ¬ IsEntryName name
-
--- a path, split into its valid names and those from the first invalid one on; if all are valid, the first part is the
--- path without its last name
-abbrev pub SplitsForRemoval : Path → Path → Path → Type 0
-SplitsForRemoval path names [] = AreNames path × (names ≡ directory_of path)
-SplitsForRemoval path names (name ∷ rest) = AreNames names × (¬ IsEntryName name) × (path ≡ names ++ name ∷ rest)
+use Rattle.gixobj_directories.specs.declared.error.Error.{Error}
+use Rattle.gixobj_directories.specs.declared.error.Error.TheVariants as error
+pub use Rattle.gixobj_directories.specs.EditNames.{IsEntryNameError, IsFirstNameError, SplitsForRemoval, StartsInvalid, directory_of}
+pub use Rattle.gixobj_directories.specs.RemovalErrors.{EditErrors}
 
 -- a directory above the path isn't opened, with this cause
 abbrev pub IsUnopenedError : Objects → (ObjectId → Bool) → Trees → Dirs → Path → directory.Error → Type 0
@@ -76,10 +44,6 @@ IsUpsertError objects may_fail trees dirs path error.MalformedTree =
     IsOpenErrorAbove objects may_fail trees dirs path opening.MalformedTree
 IsUpsertError objects may_fail trees dirs path (error.CannotRemoveNonLeaf at) = ⊥
 IsUpsertError objects may_fail trees dirs path error.OutOfMemory = AreNames path × (path ≢ [])
-
--- the errors of one sort of edit, by the objects, the failing lookups, the trees, the open directories and the path
-abbrev pub EditErrors : Type 1
-EditErrors = Objects → (ObjectId → Bool) → Trees → Dirs → Path → Error → Type 0
 
 -- the error of an edit at this path, by the store's trees and the open directories
 abbrev pub IsErrorIn : {S : Type 0} → StoreModel S → State S → EditErrors → Path → Error → Type 0

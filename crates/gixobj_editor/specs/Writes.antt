@@ -2,8 +2,8 @@
 -- as empty or null, is in Emission.antt of gixobj_files.
 use Rattle.std.specs.Prelude.{◌≡◌, ◌++◌, ℕ, List, [], ◌∷◌, All}
 use Rattle.std.specs.List.{FoldsTo}
-use Rattle.gixobj_directories.specs.Calls.{IsStorable}
-use Rattle.gixobj_directories.specs.declared.write.Written.{Written}
+use Rattle.gixobj_write.specs.Calls.{IsStorable}
+use Rattle.gixobj_write.specs.declared.write.Written.{Written}
 use Rattle.gixobj_files.specs.Bases.{HasBases, edited_bases}
 use Rattle.gixobj_files.specs.Files.{NamedFiles, Path, SameFiles, Table}
 use Rattle.gixobj_files.specs.Emission.{Emits}

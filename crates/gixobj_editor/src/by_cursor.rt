@@ -1,7 +1,7 @@
 //! Edits and writes by a cursor, with their replies.
 ghost use Rattle.std.specs.Prelude.{◌≡◌, ◌+◌, ◌≤◌, ◌++◌, ◌∷◌, [], length, vec_capacity};
 ghost use Rattle.std.specs.Fn.{FnReturnsAt};
-ghost use Rattle.gixobj_directories.specs.Calls.{names_of};
+ghost use Rattle.gixobj_open.specs.Paths.{names_of};
 ghost use Rattle.gixobj_editor.specs.Causes.{HasCausesAt, HasKeepCause, HaveEditCauses};
 ghost use Rattle.gixobj_editor.specs.Cursors.{cursor_path};
 ghost use Rattle.gixobj_editor.specs.Commands.{at_cursor};

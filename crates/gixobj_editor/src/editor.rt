@@ -13,34 +13,32 @@ ghost use Rattle.gixobj_files.specs.Opening.{IsOpened};
 ghost use Rattle.gixobj_files.specs.Bases.{HasBases};
 ghost use Rattle.gixobj_files.specs.State.{EditorFiles, new_state, open_bases, open_dirs, root_alone, with_store};
 ghost use Rattle.gixobj_files.specs.Emission.{EmitsSome};
-ghost use Rattle.gixobj_directories.specs.Calls.{IsCallableOnTrees, answered, denied, names_of};
-ghost use Rattle.gixobj_directories.specs.WriteErrors.{IsWriteError};
+ghost use Rattle.gixobj_write.specs.Calls.{IsCallableOnTrees, answered, denied, names_of};
+ghost use Rattle.gixobj_write.specs.WriteErrors.{IsWriteError};
 ghost use Rattle.gixobj_editor.specs.Writes.{IsWrittenEditor};
 ghost use Rattle.gixobj_directories.specs.Openings.{OfTrees};
-ghost use Rattle.gixobj_editor.specs.Upserts.{IsNameError, IsUpserted, IsErrorIn, IsUpsertError, StartsInvalid};
+ghost use Rattle.gixobj_directories.specs.EditNames.{StartsInvalid};
+ghost use Rattle.gixobj_editor.specs.Upserts.{IsNameError, IsUpserted, IsErrorIn, IsUpsertError};
 ghost use Rattle.gixobj_editor.specs.FailedEdits.{IsFailedEditIn};
 ghost use Rattle.gixobj_editor.specs.Removals.{IsLeafRemoved, IsRemoved, IsLeafRemovalError, IsRemovalError};
 ghost use Rattle.gixobj_editor.specs.contracts.editor.Editor.{the_row};
 
 mod cursor;
-pub mod error;
-mod names;
-mod removal;
 
 use bstr::BString;
 pub use cursor::Cursor;
-pub use error::Error;
+pub use gixobj_directories::error::Error;
+use gixobj_directories::names::{copy_names, validate_names};
 use gixobj_directories::opening::{NotLookedUp, open_along};
-use gixobj_directories::write::write_all;
-pub use gixobj_directories::write::{WriteError, Written};
+use gixobj_directories::removal::{check_leaf, open_for_removal};
 use gixobj_hash::OutOfMemory;
 use gixobj_hash::hash::{self, ObjectId};
 use gixobj_open::open::Open;
 use gixobj_store::Find;
 use gixobj_tree::Tree;
 use gixobj_tree::tree::{Entry, EntryKind};
-use names::{copy_names, validate_names};
-use removal::{check_leaf, open_for_removal};
+use gixobj_write::write::write_all;
+pub use gixobj_write::write::{WriteError, Written};
 use std::marker::Model;
 
 /// An editor of a tree and of the trees below it, over an object store. [`Editor::new`] makes one.
@@ -62,7 +60,7 @@ pub struct Editor<S> {
 
 impl<S> Model for Editor<S> {
     ghost use Rattle.std.specs.FinMap as map;
-    ghost use Rattle.gixobj_directories.specs.Calls.{names_of};
+    ghost use Rattle.gixobj_open.specs.Paths.{names_of};
     ghost use Rattle.gixobj_open.specs.Nested.{base_side, bases_of, dirs_of, entries_side, side_list};
     ghost use Rattle.gixobj_files.specs.Bases.{AreOpenedOn};
     ghost use Rattle.gixobj_files.specs.State.{State};

@@ -2,8 +2,8 @@
 -- `write_edits` and `keep_commit_of` use it.
 use Rattle.std.proofs.Common.{◌≡◌, ◌∙◌, ⊎_elim, List, [], ◌∷◌, Err, Ok, Option, Result, Some, ap, length, subst, sym, take}
 use Rattle.std.specs.Prelude.{IfErr, slice_get}
-use Rattle.gixobj_directories.specs.declared.write.WriteError.TheVariants as write
-use Rattle.gixobj_directories.specs.declared.write.Written.{Written}
+use Rattle.gixobj_write.specs.declared.write.WriteError.TheVariants as write
+use Rattle.gixobj_write.specs.declared.write.Written.{Written}
 use Rattle.gixobj_commands.specs.declared.command.Edit.{Edit}
 use Rattle.gixobj_streams.specs.declared.encode.Error as encode
 use Rattle.gixobj_files.specs.State.{State}

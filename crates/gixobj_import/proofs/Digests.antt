@@ -5,7 +5,7 @@ use Rattle.std.proofs.lemmas.List.Elements.{All-cons, All-head, All-nil, All-tai
 use Rattle.std.specs.FinMap as finite
 use Rattle.std.specs.List.{FoldsTo}
 use Rattle.gixobj_store.specs.Stores.{Objects, StoredObject, named}
-use Rattle.gixobj_directories.specs.declared.write.Written.{Written}
+use Rattle.gixobj_write.specs.declared.write.Written.{Written}
 use Rattle.gixobj_editor.specs.Writes.{IsWrittenEditor}
 use Rattle.gixobj_files.specs.State.{State}
 use Rattle.gixobj_entries.specs.Entries.{Pair}

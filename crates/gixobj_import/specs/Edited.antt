@@ -3,8 +3,8 @@ use Rattle.std.specs.Prelude.{◌≡◌, ℕ, List, [], ◌∷◌, Some, slice_g
 use Rattle.gixobj_commands.specs.declared.command.Edit.{Edit}
 use Rattle.gixobj_commands.specs.declared.command.Edit.TheVariants as edit
 use Rattle.gixobj_store.specs.Stores.{StoreModel}
-use Rattle.gixobj_directories.specs.Calls.{names_of}
-use Rattle.gixobj_editor.specs.declared.editor.error.Error.{Error}
+use Rattle.gixobj_write.specs.Calls.{names_of}
+use Rattle.gixobj_directories.specs.declared.error.Error.{Error}
 use Rattle.gixobj_streams.specs.declared.encode.Error as encode
 use Rattle.gixobj_files.specs.History.{Step, remove, upsert}
 use Rattle.gixobj_files.specs.State.{State}

@@ -3,8 +3,8 @@ use Rattle.std.specs.Prelude.{List, Result, ⊤}
 use Rattle.std.specs.Fn.{CalledAt, Mut}
 use Rattle.std.specs.List.{FoldsTo}
 use denote.Ref.{Bor}
-use Rattle.gixobj_directories.specs.Calls.{answered}
-use Rattle.gixobj_directories.specs.WriteErrors.{IsWriteError}
+use Rattle.gixobj_write.specs.Calls.{answered}
+use Rattle.gixobj_write.specs.WriteErrors.{IsWriteError}
 use Rattle.gixobj_commands.specs.declared.command.Edit.{Edit}
 use Rattle.gixobj_streams.specs.declared.encode.Error as encode
 use Rattle.gixobj_files.specs.Emission.{EmitsSome}

@@ -1,7 +1,7 @@
 -- The causes in errors of steps: trees that weren't encoded, and trees or a commit that the store didn't keep.
 use Rattle.std.specs.Prelude.{◌≡◌, ◌⊎◌, ℕ, Err, List, Option, Some, length, slice_get, take, ⊤}
-use Rattle.gixobj_directories.specs.declared.write.WriteError.TheVariants.{Out}
-use Rattle.gixobj_directories.specs.declared.write.Written.{Written}
+use Rattle.gixobj_write.specs.declared.write.WriteError.TheVariants.{Out}
+use Rattle.gixobj_write.specs.declared.write.Written.{Written}
 use Rattle.gixobj_commands.specs.declared.command.Edit.{Edit}
 use Rattle.gixobj_editor.specs.declared.reply.EditReply.TheVariants as reply
 use Rattle.gixobj_files.specs.State.{State}

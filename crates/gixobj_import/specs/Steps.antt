@@ -3,7 +3,7 @@ use Rattle.std.specs.Prelude.{◌≡◌, ◌⊎◌, ℕ, true, false, All, Conta
 use Rattle.gixobj_actor.specs.ActorWriting.{IsLegal, encode_owned_actor}
 use Rattle.gixobj_commands.specs.declared.command.Edit.{Edit}
 use Rattle.gixobj_commands.specs.declared.command.Edit.TheVariants as edit
-use Rattle.gixobj_directories.specs.declared.write.Written.{Written}
+use Rattle.gixobj_write.specs.declared.write.Written.{Written}
 use Rattle.gixobj_streams.specs.declared.encode.Error.TheVariants.{IllegalActor}
 use Rattle.gixobj_files.specs.State.{State, with_store}
 use Rattle.gixobj_hash.specs.Hash.{encode_id_hex, id_of}

@@ -1,6 +1,6 @@
 //! The write after the edits of a step: the id of each tree is the digest of its encoding.
 ghost use Rattle.std.specs.Prelude.{◌∷◌, [], Contains, IfErr, IfOk};
-ghost use Rattle.gixobj_directories.specs.Calls.{IsCallableOnTrees, answered, denied};
+ghost use Rattle.gixobj_write.specs.Calls.{IsCallableOnTrees, answered, denied};
 ghost use Rattle.gixobj_hash.specs.Hash.{IsId};
 ghost use Rattle.gixobj_import.specs.OutCauses.{HasOutCause, HasOutCauseAfter, ReturnsDigests};
 ghost use Rattle.gixobj_import.specs.StepCauses.{HasTreeCause, HasTreeCauseAfter};

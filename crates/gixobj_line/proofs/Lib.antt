@@ -3,6 +3,7 @@ pub mod EntireCommits
 mod LineErrors
 pub mod LinesYielded
 pub mod OneLine
+pub mod ParentHexes
 mod Searching
 mod SkippedLines
 pub mod TagBodies

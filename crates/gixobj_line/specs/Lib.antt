@@ -3,6 +3,8 @@ pub mod CommitBuilding
 pub mod CommitHeaders
 pub mod CommitSignatures
 pub mod Lines
+pub mod RemainingHeaders
+pub mod RemainingParents
 pub mod TagBodies
 pub mod TagLineViews
 pub mod TagLines

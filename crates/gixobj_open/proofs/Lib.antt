@@ -8,4 +8,5 @@ pub mod Levels
 pub mod NewDirectories
 pub mod Ordered
 pub mod Pieces
+pub mod Results
 pub mod Steps

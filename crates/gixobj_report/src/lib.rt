@@ -1,5 +1,7 @@
-//! Outcomes of signature verification, from the reports of verifiers and their evaluation (gnupg,
-//! doc/DETAILS; ssh-keygen, `-Y verify`; git-config, `gpg.minTrustLevel`).
+//! Calls of external programs that sign and verify, and the reports of verifiers with their evaluation
+//! (gnupg, doc/DETAILS; ssh-keygen, `-Y verify`; git-config, `gpg.minTrustLevel`).
 #![tactic(auto)]
 
+pub mod arguments;
+pub mod call;
 pub mod report;

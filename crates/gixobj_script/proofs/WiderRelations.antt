@@ -6,11 +6,11 @@ use Rattle.gixobj_commands.specs.declared.command.Command.TheVariants as command
 use Rattle.gixobj_commands.specs.declared.command.Edit.{Edit}
 use Rattle.gixobj_commands.specs.declared.command.Edit.TheVariants as edit
 use Rattle.gixobj_store.specs.Stores.{StoreModel, Objects}
-use Rattle.gixobj_directories.specs.Calls.{names_of}
-use Rattle.gixobj_directories.specs.WriteErrors.{IsWriteError}
-use Rattle.gixobj_directories.specs.declared.write.WriteError.{WriteError}
-use Rattle.gixobj_directories.specs.declared.write.WriteError.TheVariants as write
-use Rattle.gixobj_directories.specs.declared.write.Written.{Written}
+use Rattle.gixobj_write.specs.Calls.{names_of}
+use Rattle.gixobj_write.specs.WriteErrors.{IsWriteError}
+use Rattle.gixobj_write.specs.declared.write.WriteError.{WriteError}
+use Rattle.gixobj_write.specs.declared.write.WriteError.TheVariants as write
+use Rattle.gixobj_write.specs.declared.write.Written.{Written}
 use Rattle.gixobj_editor.specs.Cursors.{cursor_path}
 use Rattle.gixobj_files.specs.Files.{Path}
 use Rattle.gixobj_files.specs.Emission.{EmitsSome}

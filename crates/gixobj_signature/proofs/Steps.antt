@@ -4,7 +4,7 @@ use Rattle.std.proofs.lemmas.List.{drop_all}
 use Rattle.std.proofs.Math.Seq.{drop-cons}
 use Rattle.bstr.specs.Owned.{bstring_bytes}
 use Rattle.bstr.specs.declared.bstring.BString.{BString}
-use Rattle.gixobj_signature.specs.Calls.{Answer, CallView, OutputView, ran, failed, no_memory}
+use Rattle.gixobj_report.specs.Calls.{Answer, CallView, OutputView, ran, failed, no_memory}
 use Rattle.gixobj_signature.specs.Plans.{BeginsPlan, IsCarriedOut, IsRemainingPlan, Plan, run_then, done, no_more}
 use Rattle.gixobj_report.specs.declared.report.TrustLevel.TheVariants as trust
 use Rattle.gixobj_signature.specs.Verifiers.{ProgramView, SshView}

@@ -1,5 +1,3 @@
-pub mod Calls
-pub mod Pieces
 pub mod Plans
 pub mod SignedBytes
 pub mod Signing

@@ -7,14 +7,14 @@ use Rattle.bstr.specs.Owned.{bstring_bytes}
 use Rattle.bstr.specs.Text.{lines_of, without_terminator}
 use Rattle.bstr.specs.Utf8.{lossy_chars}
 use Rattle.bstr.specs.declared.bstr.BStr.{BStr}
-use Rattle.gixobj_signature.specs.Calls.{Answer, CallView, Failure, OutputView, failed, no_file, no_memory, no_time, not_spawned, not_reported, output_view, ran}
+use Rattle.gixobj_report.specs.Calls.{Answer, CallView, Failure, OutputView, failed, no_file, no_memory, no_time, not_spawned, not_reported, output_view, ran}
 use Rattle.gixobj_report.specs.GpgReports.{gpg_report}
 use Rattle.gixobj_report.specs.Outcomes.{OutcomeView, evaluated, outcome_view}
 use Rattle.gixobj_signature.specs.Plans.{IsCarriedOut, Plan, AllocatesForCalls, run_then, done, no_more}
 use Rattle.gixobj_report.specs.SshReports.{ssh_report}
-use Rattle.gixobj_signature.specs.declared.signature.Output.{Output}
-use Rattle.gixobj_signature.specs.declared.signature.RunError.{RunError}
-use Rattle.gixobj_signature.specs.declared.signature.RunError.TheVariants as run
+use Rattle.gixobj_report.specs.declared.call.Output.{Output}
+use Rattle.gixobj_report.specs.declared.call.RunError.{RunError}
+use Rattle.gixobj_report.specs.declared.call.RunError.TheVariants as run
 use Rattle.gixobj_report.specs.declared.report.Outcome.{Outcome}
 use Rattle.gixobj_report.specs.declared.report.TrustLevel.{TrustLevel}
 use Rattle.gixobj_report.specs.declared.report.TrustLevel.TheVariants as trust

@@ -1,9 +1,9 @@
 -- Scripted answers of a runner: a list of expected calls, each with its answer.
 use Rattle.std.specs.Prelude.{◌≡◌, ◌⊎◌, List, [], ◌∷◌, Result}
-use Rattle.gixobj_signature.specs.Calls.{Answer, answer_view, failed, not_spawned}
-use Rattle.gixobj_signature.specs.declared.signature.Call.{Call}
-use Rattle.gixobj_signature.specs.declared.signature.Output.{Output}
-use Rattle.gixobj_signature.specs.declared.signature.RunError.{RunError}
+use Rattle.gixobj_report.specs.Calls.{Answer, answer_view, failed, not_spawned}
+use Rattle.gixobj_report.specs.declared.call.Call.{Call}
+use Rattle.gixobj_report.specs.declared.call.Output.{Output}
+use Rattle.gixobj_report.specs.declared.call.RunError.{RunError}
 
 -- no program is started, and the runner's message is empty
 abbrev pub IsNotStarted : Answer → Type 0

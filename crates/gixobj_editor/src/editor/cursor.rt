@@ -2,12 +2,13 @@
 ghost use Rattle.std.specs.Prelude.{◌≡◌, ◌≢◌, [], IfErr, IfOk, IsOk, None, OnErr, OnOk};
 ghost use Rattle.std.specs.Borrow.{RestsIfErr, sem};
 ghost use Rattle.std.specs.Option.{option_copied};
-ghost use Rattle.gixobj_directories.specs.Calls.{IsCallableOnTrees, answered, denied, names_of};
-ghost use Rattle.gixobj_directories.specs.WriteErrors.{IsWriteError};
+ghost use Rattle.gixobj_write.specs.Calls.{IsCallableOnTrees, answered, denied, names_of};
+ghost use Rattle.gixobj_write.specs.WriteErrors.{IsWriteError};
 ghost use Rattle.gixobj_directories.specs.Openings.{OfTrees};
-ghost use Rattle.gixobj_editor.specs.Cursors.{IsEnsured, IsFailedCursorIn, IsWrittenBelow, IsErrorBelow, IsCursorError, from_root, cursor_path};
+ghost use Rattle.gixobj_directories.specs.EditNames.{from_root, StartsInvalid};
+ghost use Rattle.gixobj_editor.specs.Cursors.{IsEnsured, IsFailedCursorIn, IsWrittenBelow, IsErrorBelow, IsCursorError, cursor_path};
 ghost use Rattle.gixobj_editor.specs.Removals.{IsLeafRemoved, IsRemoved, IsLeafRemovalError, IsRemovalError};
-ghost use Rattle.gixobj_editor.specs.Upserts.{IsNameError, IsUpserted, IsErrorIn, IsUpsertError, StartsInvalid};
+ghost use Rattle.gixobj_editor.specs.Upserts.{IsNameError, IsUpserted, IsErrorIn, IsUpsertError};
 ghost use Rattle.gixobj_editor.specs.FailedEdits.{IsFailedEditIn};
 ghost use Rattle.gixobj_editor.specs.contracts.editor.Editor.{the_row};
 ghost use Rattle.gixobj_files.specs.Edits.{entry_at};
@@ -20,16 +21,16 @@ ghost use Rattle.gixobj_files.specs.Unopened.{with_empty_name};
 ghost use Rattle.gixobj_store.specs.Stores.{store_model};
 ghost use Rattle.gixobj_entries.specs.Mode.{mode_of_kind};
 
-use super::names::{copy_names, join_paths, validate_names};
 use super::{Editor, Error, WriteError, Written};
 use bstr::BString;
+use gixobj_directories::names::{copy_names, join_paths, validate_names};
 use gixobj_directories::opening::{NotLookedUp, open_along};
-use gixobj_directories::write::write_at;
 use gixobj_hash::OutOfMemory;
 use gixobj_hash::hash::ObjectId;
 use gixobj_store::Find;
 use gixobj_tree::Tree;
 use gixobj_tree::tree::{Entry, EntryKind};
+use gixobj_write::write::write_at;
 use std::alloc::AllocError;
 use std::marker::Model;
 

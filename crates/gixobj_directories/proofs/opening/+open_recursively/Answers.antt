@@ -8,11 +8,11 @@ use Rattle.gixobj_files.specs.Edits.{Finds, Opens, arrived, counted}
 use Rattle.gixobj_files.specs.OpeningStops.{StopsOpening}
 use Rattle.gixobj_files.specs.Opening.{IsOpened}
 use Rattle.gixobj_files.specs.Tables.{IsNeverLookedUp}
-use Rattle.gixobj_directories.specs.Calls.{names_of}
+use Rattle.gixobj_open.specs.Paths.{names_of}
 use Rattle.gixobj_open.specs.Nested.{Opened, bases_of, child_list, dirs_of, opened, parts, with_part}
 use Rattle.gixobj_directories.specs.Openings.{EndsBefore, IsDirectoryError}
 use Rattle.gixobj_open.specs.declared.open.Child.{Child}
-use Rattle.gixobj_directories.proofs.Emitting.{if_err_weaken}
+use Rattle.gixobj_open.proofs.Results.{if_err_weaken}
 use Rattle.gixobj_open.proofs.Levels.{dirs_of_nil, all_names_differ, in_part_none}
 use Rattle.gixobj_open.proofs.Pieces.{IsFound, is_changed, is_child, is_pieced_level_with_open}
 use Rattle.gixobj_directories.proofs.OpeningSteps.{HaltsAt, IsFormedList, OpensAs, StaysOpened, counted_append, down_in, found_in, halts_at_goes_down, halts_at_goes_in, stops_opening_here, is_level_of_new_child, stops_opening_for_memory, stops_opening_not_found, opens_goes_down, opens_goes_in, stays_opened_goes_down, stays_opened_goes_in, is_opened_after_opening, opens_stopped_here}

@@ -2,7 +2,7 @@ use Rattle.std.proofs.Common.{◌≡◌, subst, sym}
 use Rattle.std.specs.Prelude.{IfErr, OnOk}
 use Rattle.gixobj_files.specs.Bases.{opened_bases}
 use Rattle.gixobj_files.specs.Files.{Path}
-use Rattle.gixobj_directories.specs.Calls.{names_of}
+use Rattle.gixobj_open.specs.Paths.{names_of}
 use Rattle.gixobj_open.specs.Nested.{Opened, bases_of, child_list, dirs_of, parts}
 use Rattle.gixobj_open.proofs.Levels.{dirs_of_nil}
 use Rattle.gixobj_directories.proofs.OpeningDescents.{Opening, Stopping}

@@ -6,7 +6,7 @@ use Rattle.std.proofs.lemmas.List.{take_all}
 use Rattle.bstr.specs.Owned.{bstring_bytes}
 use Rattle.bstr.specs.declared.bstring.BString.{BString}
 use Rattle.gixobj_files.specs.Files.{Path}
-use Rattle.gixobj_directories.specs.Calls.{names_of}
+use Rattle.gixobj_open.specs.Paths.{names_of}
 use Rattle.gixobj_open.specs.Descents.{rebuilt, top_of}
 use Rattle.gixobj_open.specs.Nested.{Opened, dirs_of, entries_side}
 use Rattle.gixobj_open.proofs.Descents.{names_of_take_more}

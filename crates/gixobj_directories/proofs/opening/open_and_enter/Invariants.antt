@@ -1,5 +1,5 @@
 use Rattle.std.proofs.Common.{◌≡◌, take}
-use Rattle.gixobj_directories.specs.Calls.{names_of}
+use Rattle.gixobj_open.specs.Paths.{names_of}
 use Rattle.gixobj_directories.proofs.OpeningDescents.{ComesAlong}
 use Rattle.gixobj_directories.proofs.opening.open_and_enter.Given as goal
 

@@ -1,6 +1,6 @@
 use Rattle.std.proofs.Common.{List, Result, inr, rules, ◌≡◌}
 use Rattle.std.specs.Fn.{FnReturnsAt}
-use Rattle.gixobj_directories.specs.Calls.{names_of}
+use Rattle.gixobj_open.specs.Paths.{names_of}
 use Rattle.gixobj_directories.specs.Openings.{OfTrees}
 use Rattle.gixobj_editor.specs.Causes.{HasCausesAt}
 use Rattle.gixobj_editor.specs.Cursors.{cursor_path}

@@ -1,7 +1,7 @@
 use Rattle.std.proofs.Common.{List, Result, rules, subst}
 use Rattle.std.specs.Fn.{FnReturnsAt}
 use Rattle.bstr.specs.declared.bstring.BString.{BString}
-use Rattle.gixobj_directories.specs.Calls.{names_of}
+use Rattle.gixobj_open.specs.Paths.{names_of}
 use Rattle.gixobj_editor.specs.Causes.{HasCausesAt}
 use Rattle.gixobj_editor.specs.Cursors.{cursor_path}
 use Rattle.gixobj_hash.specs.declared.hash.object_id.ObjectId.{ObjectId}

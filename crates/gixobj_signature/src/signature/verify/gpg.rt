@@ -2,7 +2,7 @@
 ghost use Rattle.std.specs.Prelude.{◌≡◌, IfOk, Some, map};
 ghost use Rattle.std.specs.Option.{option_map};
 ghost use Rattle.bstr.specs.Owned.{bstring_bytes};
-ghost use Rattle.gixobj_signature.specs.Calls.{call_view, output_view, word_view};
+ghost use Rattle.gixobj_report.specs.Calls.{call_view, output_view, word_view};
 ghost use Rattle.gixobj_report.specs.Outcomes.{outcome_view};
 ghost use Rattle.gixobj_fields.specs.declared.signature.Format.TheVariants as format;
 ghost use Rattle.gixobj_signature.specs.SignedBytes.{signed_bytes};
@@ -12,12 +12,12 @@ ghost use Rattle.gixobj_signature.specs.Plans.{AllocatesForCalls};
 ghost use Rattle.gixobj_signature.specs.Verifying.{IsOutcomeOf, gpg_verified, gpg_verify_plan, reported, verify_plan, verify_view};
 
 use super::{Error, Program, run_call};
-use crate::signature::arguments::Piece::{File, Text};
-use crate::signature::arguments::{arguments_with, environment_of, file_of};
 use crate::signature::{Call, Output, Runner, SignedData, Word};
 use bstr::{BString, ByteSlice};
 use gixobj_fields::signature::Format;
 use gixobj_hash::OutOfMemory;
+use gixobj_report::arguments::Piece::{File, Text};
+use gixobj_report::arguments::{arguments_with, environment_of, file_of};
 use gixobj_report::report::{Outcome, evaluate, parse_gpg_output};
 use std::alloc::Global;
 

@@ -2,7 +2,7 @@
 ghost use Rattle.std.specs.Prelude.{◌≡◌, ◌++◌, ◌∷◌, [], IfOk, None, OnOk, Some, filter, map};
 ghost use Rattle.std.specs.Option.{option_map};
 ghost use Rattle.bstr.specs.Owned.{bstring_bytes};
-ghost use Rattle.gixobj_signature.specs.Calls.{output_view};
+ghost use Rattle.gixobj_report.specs.Calls.{output_view};
 ghost use Rattle.gixobj_report.specs.Outcomes.{outcome_view};
 ghost use Rattle.gixobj_report.specs.declared.report.TrustLevel.TheVariants as trust;
 ghost use Rattle.gixobj_signature.specs.SignedBytes.{signed_bytes};

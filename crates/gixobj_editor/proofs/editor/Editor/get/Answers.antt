@@ -1,5 +1,5 @@
 use Rattle.std.proofs.Common.{◌∙◌, ap}
-use Rattle.gixobj_directories.specs.Calls.{names_of}
+use Rattle.gixobj_open.specs.Paths.{names_of}
 use Rattle.gixobj_files.specs.Edits.{entry_at}
 use Rattle.gixobj_files.specs.State.{open_dirs}
 use Rattle.gixobj_editor.proofs.Edited.{map_dirs_eq}

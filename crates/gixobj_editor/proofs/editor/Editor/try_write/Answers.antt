@@ -3,8 +3,8 @@ use Rattle.std.proofs.Common.{◌∙◌, Err, Ok, ap, subst, sym}
 use Rattle.std.specs.Prelude.{IfErr}
 use Rattle.std.specs.Fn.{CalledAt}
 use Rattle.std.proofs.lemmas.Result.{IfOk-weaker}
-use Rattle.gixobj_directories.specs.Calls.{names_of}
-use Rattle.gixobj_directories.specs.WriteErrors.{IsWriteError}
+use Rattle.gixobj_open.specs.Paths.{names_of}
+use Rattle.gixobj_write.specs.WriteErrors.{IsWriteError}
 use Rattle.gixobj_open.specs.Nested.{bases_of}
 use Rattle.gixobj_files.specs.Emission.{EmitsSome}
 use Rattle.gixobj_files.specs.Opening.{Dirs}

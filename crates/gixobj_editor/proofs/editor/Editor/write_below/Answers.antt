@@ -2,8 +2,8 @@
 use Rattle.std.proofs.Common.{◌≢◌, ◌∙◌, List, Err, None, Ok, ap, subst, sym}
 use Rattle.std.specs.Prelude.{IfErr}
 use Rattle.std.specs.Fn.{CalledAt}
-use Rattle.gixobj_directories.specs.Calls.{names_of}
-use Rattle.gixobj_directories.specs.WriteErrors.{IsWriteError}
+use Rattle.gixobj_open.specs.Paths.{names_of}
+use Rattle.gixobj_write.specs.WriteErrors.{IsWriteError}
 use Rattle.gixobj_open.specs.Nested.{bases_of, dirs_of}
 use Rattle.gixobj_files.specs.Files.{Path}
 use Rattle.gixobj_files.specs.Edits.{only_open, with_path}

@@ -2,14 +2,14 @@
 use Rattle.std.proofs.Common.{◌≡◌, ◌∙◌, OnErr, ap, subst, sym}
 use Rattle.std.proofs.lemmas.Result.{MatchResult-weaker}
 use Rattle.gixobj_files.specs.Files.{Path}
-use Rattle.gixobj_directories.specs.Calls.{names_of}
-use Rattle.gixobj_directories.proofs.Emitting.{if_err_weaken}
+use Rattle.gixobj_open.specs.Paths.{names_of}
+use Rattle.gixobj_open.proofs.Results.{if_err_weaken}
 use Rattle.gixobj_store.specs.Stores.{StoreModel}
-use Rattle.gixobj_editor.specs.declared.editor.error.Error.{Error}
-use Rattle.gixobj_editor.specs.Cursors.{from_root}
-use Rattle.gixobj_editor.specs.Upserts.{StartsInvalid}
+use Rattle.gixobj_directories.specs.declared.error.Error.{Error}
+use Rattle.gixobj_directories.specs.EditNames.{from_root, StartsInvalid}
 use Rattle.gixobj_editor.specs.Removals.{IsLeafRemoved}
-use Rattle.gixobj_editor.specs.FailedEdits.{IsAfterFailedEdit, IsLookupError}
+use Rattle.gixobj_directories.specs.FailedOpenings.{IsLookupError}
+use Rattle.gixobj_editor.specs.FailedEdits.{IsAfterFailedEdit}
 use Rattle.gixobj_editor.proofs.CursorPrefixes.{Stays, known_of_either, edit_failure_unchanged, stays_failed, stays_removed}
 use Rattle.gixobj_editor.proofs.editor.cursor.Cursor.try_remove_leaf.Goals as goal
 

@@ -1,7 +1,7 @@
 use Rattle.std.proofs.Common.{rules, ◌≡◌, sym, subst, map, None, Result, Err}
 use Rattle.std.specs.Option.{option_map}
 use Rattle.bstr.specs.Owned.{bstring_bytes}
-use Rattle.gixobj_signature.specs.Calls.{output_view}
+use Rattle.gixobj_report.specs.Calls.{output_view}
 use Rattle.gixobj_signature.specs.Plans.{IsCarriedOut}
 use Rattle.gixobj_report.specs.Outcomes.{outcome_view}
 use Rattle.gixobj_report.specs.declared.report.Outcome.{Outcome}

@@ -1,5 +1,5 @@
 use Rattle.std.proofs.Common.{rules, ◌≡◌, sym, subst, inr, cond, None, [], Result, Err}
-use Rattle.gixobj_signature.specs.Calls.{output_view, ran}
+use Rattle.gixobj_report.specs.Calls.{output_view, ran}
 use Rattle.gixobj_signature.specs.Plans.{IsCarriedOut}
 use Rattle.gixobj_report.specs.declared.report.Outcome.{Outcome}
 use Rattle.gixobj_signature.specs.SignedBytes.{signed_bytes}

@@ -1,0 +1,9 @@
+use Rattle.gixobj_codec.proofs.MergetagsFound.{all_consumed_are_tags, all_listed}
+use Rattle.gixobj_line.specs.RemainingHeaders.{remaining_headers}
+use Rattle.gixobj_codec.proofs.laws.headers.borrowed_mergetag_search_complete.Goals as goal
+
+pub returns-clause-yielded : goal.returns-clause-yielded
+returns-clause-yielded c = all_consumed_are_tags remaining_headers
+
+pub returns-clause-tags : goal.returns-clause-tags
+returns-clause-tags c = all_listed remaining_headers

@@ -1,0 +1,5 @@
+pub mod Calls
+pub mod Frames
+pub mod Moves
+pub mod TakenTrees
+pub mod WriteErrors
