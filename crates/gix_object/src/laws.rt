@@ -21,13 +21,13 @@ pub use gixobj_codec::laws::{
     trailer_block_start_is_unique, trailer_line_decodes, trailers_are_unique,
     tree_decodes_uniquely, tree_readers_agree, tree_reencodes_identically, tree_round_trips,
 };
-pub use gixobj_directories::laws::{looked_up_file_exists, store_has_tree_map};
 pub use gixobj_editor::laws::{
     consistent_run_has_table, encodable_tree_decodes_to_itself, run_table_agrees_with_writes,
 };
-pub use gixobj_fields::laws::{marker_position_is_unique, signature_format_is_unique};
-pub use gixobj_files::laws::{
+pub use gixobj_editor_files::laws::{
     consistent_pairs_have_table, list_has_table, plain_history_is_table_independent,
     single_root_is_opened, store_has_table,
 };
-pub use gixobj_import::laws::consistent_import_has_table;
+pub use gixobj_editor_import::laws::consistent_import_has_table;
+pub use gixobj_editor_lookups::laws::{looked_up_file_exists, store_has_tree_map};
+pub use gixobj_parse::laws::{marker_position_is_unique, signature_format_is_unique};

@@ -25,6 +25,6 @@ pub use gixobj_codec::{
     commit, data, tag,
 };
 pub use gixobj_error::Error;
-pub use gixobj_find::{FindExt, HeaderExt, Write, find, write};
-pub use gixobj_import::import;
-pub use gixobj_keep::{Keep, KeepCommit, KeepError, Memory, MemoryIds};
+pub use gixobj_store_find::{FindExt, HeaderExt, Write, find, write};
+pub use gixobj_editor_import::import;
+pub use gixobj_store_keep::{Keep, KeepCommit, KeepError, Memory, MemoryIds};

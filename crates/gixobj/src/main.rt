@@ -7,9 +7,9 @@
 //! - `gixobj edit [sha256]` runs a script of edits on an empty tree, and reports the outcome of each.
 #![tactic(auto)]
 
-use gixobj_script::engine::engine;
-use gixobj_show::arguments::process_arguments;
-use gixobj_show::engine::report_to;
+use gixobj_cli_edit::engine::engine;
+use gixobj_cli_show::arguments::process_arguments;
+use gixobj_cli_show::engine::report_to;
 use gixobj_streams::streams::ToWrite;
 use std::process::ExitCode;
 

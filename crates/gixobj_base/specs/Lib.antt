@@ -5,13 +5,13 @@ pub use Rattle.gixobj_actor.specs.declared as actor
 pub use Rattle.gixobj_encode.specs.FieldWriting
 pub use Rattle.gixobj_encode.specs.StreamHash
 pub use Rattle.gixobj_encode.specs.declared as fields
-pub use Rattle.gixobj_entries.specs.Entries
-pub use Rattle.gixobj_entries.specs.EntryOrder
-pub use Rattle.gixobj_entries.specs.KeyOrder
-pub use Rattle.gixobj_entries.specs.Mode
-pub use Rattle.gixobj_entries.specs.ModeNumber
-pub use Rattle.gixobj_entries.specs.declared as entries
-pub use Rattle.gixobj_fields.specs.HeaderReading
+pub use Rattle.gixobj_tree_entries.specs.Entries
+pub use Rattle.gixobj_tree_entries.specs.EntryOrder
+pub use Rattle.gixobj_tree_entries.specs.KeyOrder
+pub use Rattle.gixobj_tree_entries.specs.Mode
+pub use Rattle.gixobj_tree_entries.specs.ModeNumber
+pub use Rattle.gixobj_tree_entries.specs.declared as entries
+pub use Rattle.gixobj_parse.specs.HeaderReading
 pub use Rattle.gixobj_hash.specs.ByteStrings
 pub use Rattle.gixobj_hash.specs.Bytes
 pub use Rattle.gixobj_hash.specs.Decode

@@ -4,10 +4,10 @@
 //! This crate has no code. It re-exports the crates below it under the names that users know:
 //!
 //! - [`gixobj_hash`]: ids, kinds and loose headers;
-//! - [`gixobj_fields`]: header fields, decoded;
+//! - [`gixobj_parse`]: header fields, decoded;
 //! - [`gixobj_encode`]: header fields, encoded, and the trait of objects that can be written;
 //! - [`gixobj_actor`]: actors and times;
-//! - [`gixobj_entries`] and [`gixobj_tree`]: modes, entries, trees and blobs.
+//! - [`gixobj_tree_entries`] and [`gixobj_tree`]: modes, entries, trees and blobs.
 #![tactic(auto)]
 
 pub mod encode;

@@ -9,7 +9,7 @@ use gixobj_base::hash::ObjectId;
 use gixobj_base::tree::EntryKind;
 use gixobj_bench_inputs::paths::{Order, Shape, paths_of};
 use gixobj_editor::editor::Editor;
-use gixobj_find::find::Never;
+use gixobj_store_find::find::Never;
 use std::alloc::Global;
 use std::io;
 use std::io::Write;

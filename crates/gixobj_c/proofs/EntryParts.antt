@@ -7,9 +7,9 @@ use Rattle.gixobj_c.specs.Trees.{IsEntryAt, IsTreeEntryCall}
 use Rattle.gixobj_c.specs.declared.trees.TreeEntry.{TreeEntry}
 use Rattle.gixobj_hash.specs.Hash.{id_bytes}
 use Rattle.gixobj_hash.specs.declared.hash.kind.Kind.{Kind}
-use Rattle.gixobj_entries.specs.Mode.{mode_value}
-use Rattle.gixobj_entries.specs.Entries.{EntryView}
-use Rattle.gixobj_entries.specs.TreeDecoding.{BeginsWithEntry, BeginsWithNoEntry}
+use Rattle.gixobj_tree_entries.specs.Mode.{mode_value}
+use Rattle.gixobj_tree_entries.specs.Entries.{EntryView}
+use Rattle.gixobj_tree_entries.specs.TreeDecoding.{BeginsWithEntry, BeginsWithNoEntry}
 
 pub name_before_rest : (hash : Kind) (tree : List ℕ) (offset : ℕ) (input : List ℕ) (e : EntryView) (rest name id : List ℕ) (after : ℕ)
     → input ≡ drop offset tree

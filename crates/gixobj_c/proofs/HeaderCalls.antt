@@ -1,10 +1,10 @@
 -- What is written of the value of a header.
 use Rattle.std.proofs.Common.{◌≡◌, ℕ, List, inl, subst, sym}
 use Rattle.std.specs.Prelude.{Some}
-use Rattle.gixobj_calls.specs.Buffers.{WritesBytes}
+use Rattle.gixobj_c_codes.specs.Buffers.{WritesBytes}
 use Rattle.gixobj_c.specs.Headers.{IsCommitHeaderCall}
 use Rattle.gixobj_hash.specs.declared.hash.kind.Kind.{Kind}
-use Rattle.gixobj_line.specs.CommitHeaders.{HasNamedHeader}
+use Rattle.gixobj_grammar.specs.CommitHeaders.{HasNamedHeader}
 
 pub header_call_of_written : (kind : Kind) (commit name value others written before after : List ℕ) (len_before len status : ℕ)
     → HasNamedHeader kind name commit value others

@@ -2,11 +2,11 @@
 use Rattle.std.proofs.Common.{◌≡◌, ℕ, List, [], ◌++◌, ap, inl, refl, subst, sym, ◌∙◌}
 use Rattle.std.proofs.lemmas.List.{append-nil}
 use Rattle.std.specs.Prelude.{Some}
-use Rattle.gixobj_calls.specs.Buffers.{WritesTwo}
+use Rattle.gixobj_c_codes.specs.Buffers.{WritesTwo}
 use Rattle.gixobj_c.specs.Signatures.{IsCommitSignatureCall}
 use Rattle.gixobj_c.specs.Spans.{HasPieceBefore}
 use Rattle.gixobj_hash.specs.declared.hash.kind.Kind.{Kind}
-use Rattle.gixobj_line.specs.CommitSignatures.{HasCommitSignature}
+use Rattle.gixobj_grammar.specs.CommitSignatures.{HasCommitSignature}
 
 pub signature_before_end : (tag signed signature : List ℕ) → tag ≡ signed ++ signature → HasPieceBefore tag signature 0
 signature_before_end tag signed signature joined = record {

@@ -4,7 +4,7 @@ use Rattle.std.proofs.lemmas.List.{append-nil}
 use Rattle.std.specs.Prelude.{Option, Some, None}
 use Rattle.bstr.specs.BStr.{bstr_bytes}
 use Rattle.bstr.specs.declared.bstr.BStr.{BStr}
-use Rattle.gixobj_calls.specs.Buffers.{WritesBytes}
+use Rattle.gixobj_c_codes.specs.Buffers.{WritesBytes}
 use Rattle.gixobj_c.specs.Messages.{IsMessageOf, IsSummaryCall}
 use Rattle.gixobj_c.specs.Spans.{BeginsWithPiece, HasPieceBefore, IsSpanOf}
 use Rattle.gixobj_c.specs.declared.messages.Message.{Message}

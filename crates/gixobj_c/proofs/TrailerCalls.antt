@@ -3,7 +3,7 @@ use Rattle.std.proofs.Common.{◌≡◌, ◌≤◌, ◌+◌, ◌++◌, ℕ, List
 use Rattle.std.proofs.lemmas.List.{drop-drop, length-drop}
 use Rattle.std.specs.Prelude.{Err, None, Ok, Result, Some}
 use Rattle.bstr.specs.Text.{lines_of}
-use Rattle.gixobj_calls.specs.Buffers.{WritesTwo}
+use Rattle.gixobj_c_codes.specs.Buffers.{WritesTwo}
 use Rattle.gixobj_c.specs.Trailers.{HasNoTrailerAt, HasTrailerAt, IsTrailerCall, NeedsTrailerAllocation}
 use Rattle.gixobj_hash.specs.declared.memory.OutOfMemory.{OutOfMemory}
 use Rattle.gixobj_text.specs.FirstLines.{HasLastLines}

@@ -2,7 +2,7 @@
 use Rattle.std.specs.Prelude.{◌≡◌, ◌⊎◌, ℕ, List, pos}
 use Rattle.gixobj_actor.specs.Actor.{ActorView, IsActorLineOf, IsMalformedActorLine}
 use Rattle.gixobj_actor.specs.Date.{DecodesToTime, IsMalformedTime}
-use Rattle.gixobj_calls.specs.Codes.{done, malformed}
+use Rattle.gixobj_c_codes.specs.Codes.{done, malformed}
 use Rattle.gixobj_c.specs.Spans.{IsSpanOf}
 use Rattle.gixobj_c.specs.declared.actors.Actor.{Actor}
 

@@ -1,7 +1,7 @@
 -- Results of the call about the tokens of commits.
 use Rattle.std.specs.Prelude.{◌≡◌, ◌<◌, ◌++◌, ◌==◌, ◌⊎◌, ℕ, All, List, Option, Some, None, drop, if◌then◌else◌, length}
 use Rattle.std.specs.List.{flat_map}
-use Rattle.gixobj_calls.specs.Codes.{at_end, bad_offset, done, malformed, out_of_memory, unknown_code}
+use Rattle.gixobj_c_codes.specs.Codes.{at_end, bad_offset, done, malformed, out_of_memory, unknown_code}
 use Rattle.gixobj_c.specs.Spans.{IsSpanOf}
 use Rattle.gixobj_c.specs.declared.commits.CommitToken.{CommitToken}
 use Rattle.gixobj_c.specs.declared.commits.Cursor.{Cursor}
@@ -11,9 +11,9 @@ use Rattle.gixobj_hash.specs.Runs.{HasNoPiece}
 use Rattle.gixobj_hash.specs.Bytes.{newline}
 use Rattle.gixobj_hash.specs.ByteStrings.{IsByteFree}
 use Rattle.gixobj_hash.specs.declared.hash.kind.Kind.{Kind}
-use Rattle.gixobj_line.specs.Lines.{BeginsWithLine, LineView, NeedsAllocation, author_line, committer_line, encoding_line, header_line, message_line, parent_line, tree_line}
-use Rattle.gixobj_line.specs.declared.lines.State.{State}
-use Rattle.gixobj_line.specs.declared.lines.State.TheVariants as state
+use Rattle.gixobj_grammar.specs.Lines.{BeginsWithLine, LineView, NeedsAllocation, author_line, committer_line, encoding_line, header_line, message_line, parent_line, tree_line}
+use Rattle.gixobj_grammar.specs.declared.lines.State.{State}
+use Rattle.gixobj_grammar.specs.declared.lines.State.TheVariants as state
 
 -- the state of this number
 abbrev pub state_of_code : ℕ → Option State

@@ -1,6 +1,6 @@
 -- Results of the call about several entries of a tree.
 use Rattle.std.specs.Prelude.{◌≡◌, ◌<◌, ◌⊎◌, ℕ, List, [], ◌∷◌, Option, Some, None, drop, length, take}
-use Rattle.gixobj_calls.specs.Codes.{done, unknown_code}
+use Rattle.gixobj_c_codes.specs.Codes.{done, unknown_code}
 use Rattle.gixobj_c.specs.Trees.{IsEntryAt, IsEntryStatus}
 use Rattle.gixobj_c.specs.declared.trees.TreeEntry.{TreeEntry}
 use Rattle.gixobj_hash.specs.declared.hash.kind.Kind.{Kind}

@@ -1,10 +1,10 @@
 -- Results of the call about the extra headers of commits.
 use Rattle.std.specs.Prelude.{◌≡◌, ◌⊎◌, ℕ, List, Option, Some, None}
-use Rattle.gixobj_calls.specs.Buffers.{WritesBytes}
-use Rattle.gixobj_calls.specs.Codes.{malformed, not_found, out_of_memory, unknown_code}
+use Rattle.gixobj_c_codes.specs.Buffers.{WritesBytes}
+use Rattle.gixobj_c_codes.specs.Codes.{malformed, not_found, out_of_memory, unknown_code}
 use Rattle.gixobj_hash.specs.declared.decode.Error.TheVariants as error
 use Rattle.gixobj_hash.specs.declared.hash.kind.Kind.{Kind}
-use Rattle.gixobj_line.specs.CommitHeaders.{HasNamedHeader, HasNoNamedHeader, IsNamedHeaderError}
+use Rattle.gixobj_grammar.specs.CommitHeaders.{HasNamedHeader, HasNoNamedHeader, IsNamedHeaderError}
 
 -- why no header of this name is found: all lines are valid and none is such a header, a malformed line comes before
 -- any such header, or a header of several lines does, whose value allocates

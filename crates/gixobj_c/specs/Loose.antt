@@ -1,6 +1,6 @@
 -- Results of the call about the header of a loose object (gitformat-loose, "Loose object format").
 use Rattle.std.specs.Prelude.{◌≡◌, ◌⊎◌, ◌∷◌, ◌++◌, ℕ, List}
-use Rattle.gixobj_calls.specs.Codes.{done, invalid_size, kind_code, malformed, unknown_kind}
+use Rattle.gixobj_c_codes.specs.Codes.{done, invalid_size, kind_code, malformed, unknown_kind}
 use Rattle.gixobj_c.specs.declared.loose.LooseHeader.{LooseHeader}
 use Rattle.gixobj_hash.specs.Bytes.{space}
 use Rattle.gixobj_hash.specs.ByteStrings.{IsByteFree, SplitsAt}

@@ -1,7 +1,7 @@
 -- Results of the calls about messages.
 use Rattle.std.specs.Prelude.{◌≡◌, ◌⊎◌, ℕ, List, None, Option, Some, true}
-use Rattle.gixobj_calls.specs.Buffers.{WritesBytes}
-use Rattle.gixobj_calls.specs.Codes.{out_of_memory}
+use Rattle.gixobj_c_codes.specs.Buffers.{WritesBytes}
+use Rattle.gixobj_c_codes.specs.Codes.{out_of_memory}
 use Rattle.gixobj_c.specs.Spans.{IsSpanOf}
 use Rattle.gixobj_c.specs.declared.messages.Message.{Message}
 use Rattle.gixobj_text.specs.SummaryPieces.{is_multiline}

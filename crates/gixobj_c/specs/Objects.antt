@@ -1,15 +1,15 @@
 -- Results of the calls about entire objects.
 use Rattle.std.specs.Prelude.{◌≡◌, ◌≢◌, ◌⊎◌, ℕ, List, Option, Some, ⊤}
-use Rattle.gixobj_calls.specs.Buffers.{WritesPrefix}
-use Rattle.gixobj_calls.specs.Codes.{done, malformed, mismatch, unknown_code}
+use Rattle.gixobj_c_codes.specs.Buffers.{WritesPrefix}
+use Rattle.gixobj_c_codes.specs.Codes.{done, malformed, mismatch, unknown_code}
 use Rattle.gixobj_hash.specs.Hash.{id_bytes, id_of}
 use Rattle.gixobj_hash.specs.declared.hash.kind.Kind as hash
 use Rattle.gixobj_hash.specs.declared.kind.Kind.{Kind}
 use Rattle.gixobj_hash.specs.declared.kind.Kind.TheVariants as kind
-use Rattle.gixobj_line.specs.Commit.{IsCommit}
-use Rattle.gixobj_line.specs.TagPrefix.{IsTag}
-use Rattle.gixobj_entries.specs.Entries.{EntryView}
-use Rattle.gixobj_entries.specs.TreeDecoding.{DecodesToTree}
+use Rattle.gixobj_grammar.specs.Commit.{IsCommit}
+use Rattle.gixobj_grammar.specs.TagPrefix.{IsTag}
+use Rattle.gixobj_tree_entries.specs.Entries.{EntryView}
+use Rattle.gixobj_tree_entries.specs.TreeDecoding.{DecodesToTree}
 
 -- writes the id of the object of these kinds and this content; an unknown number leaves the buffer unchanged
 abbrev pub IsIdCall : Option hash.Kind → Option Kind → List ℕ → List ℕ → List ℕ → ℕ → Type 0

@@ -1,15 +1,15 @@
 -- Results of the calls about signatures.
 use Rattle.std.specs.Prelude.{◌≡◌, ◌⊎◌, ℕ, List, Option, Some, None}
-use Rattle.gixobj_calls.specs.Buffers.{WritesTwo}
-use Rattle.gixobj_calls.specs.Codes.{done, malformed, not_found, out_of_memory, unknown_code}
+use Rattle.gixobj_c_codes.specs.Buffers.{WritesTwo}
+use Rattle.gixobj_c_codes.specs.Codes.{done, malformed, not_found, out_of_memory, unknown_code}
 use Rattle.gixobj_c.specs.Spans.{IsSpanOf}
 use Rattle.gixobj_c.specs.declared.spans.Span.{Span}
 use Rattle.gixobj_hash.specs.declared.decode.Error.TheVariants as error
 use Rattle.gixobj_hash.specs.declared.hash.kind.Kind.{Kind}
-use Rattle.gixobj_line.specs.CommitSignatures.{HasCommitSignature, HasNoSignature, IsCommitSignatureError}
-use Rattle.gixobj_line.specs.TagSignatures.{HasTagSignature}
-use Rattle.gixobj_fields.specs.Markers.{HasNoMarker}
-use Rattle.gixobj_fields.specs.declared.signature.Format.{Format}
+use Rattle.gixobj_grammar.specs.CommitSignatures.{HasCommitSignature, HasNoSignature, IsCommitSignatureError}
+use Rattle.gixobj_grammar.specs.TagSignatures.{HasTagSignature}
+use Rattle.gixobj_parse.specs.Markers.{HasNoMarker}
+use Rattle.gixobj_parse.specs.declared.signature.Format.{Format}
 
 -- the position of the tag's signature, which signs all bytes before it; without one nothing is written
 abbrev pub IsTagSignatureCall : List ℕ → Span → Span → ℕ → Type 0

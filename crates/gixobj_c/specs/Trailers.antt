@@ -1,8 +1,8 @@
 -- Results of the call about the trailers of messages.
 use Rattle.std.specs.Prelude.{◌≡◌, ◌≤◌, ◌⊎◌, ◌∷◌, ℕ, List, drop, length, true}
 use Rattle.bstr.specs.Text.{lines_of}
-use Rattle.gixobj_calls.specs.Buffers.{WritesTwo}
-use Rattle.gixobj_calls.specs.Codes.{not_found, out_of_memory}
+use Rattle.gixobj_c_codes.specs.Buffers.{WritesTwo}
+use Rattle.gixobj_c_codes.specs.Codes.{not_found, out_of_memory}
 use Rattle.gixobj_text.specs.FirstLines.{HasLastLines}
 use Rattle.gixobj_text.specs.MessageTrailers.{HasTrailerBlock, HasTrailers}
 use Rattle.gixobj_text.specs.Trailers.{TrailerView, trailers_of_bytes}

@@ -1,13 +1,13 @@
 -- Results of the calls about the entries of trees.
 use Rattle.std.specs.Prelude.{◌≡◌, ◌<◌, ◌⊎◌, ℕ, List, Option, Some, None, drop, length}
-use Rattle.gixobj_calls.specs.Codes.{at_end, bad_offset, done, malformed, unknown_code}
+use Rattle.gixobj_c_codes.specs.Codes.{at_end, bad_offset, done, malformed, unknown_code}
 use Rattle.gixobj_c.specs.Spans.{IsSpanOf}
 use Rattle.gixobj_c.specs.declared.trees.TreeEntry.{TreeEntry}
 use Rattle.gixobj_hash.specs.Hash.{id_bytes}
 use Rattle.gixobj_hash.specs.declared.hash.kind.Kind.{Kind}
-use Rattle.gixobj_entries.specs.Mode.{mode_value}
-use Rattle.gixobj_entries.specs.Entries.{EntryView}
-use Rattle.gixobj_entries.specs.TreeDecoding.{BeginsWithEntry, BeginsWithNoEntry}
+use Rattle.gixobj_tree_entries.specs.Mode.{mode_value}
+use Rattle.gixobj_tree_entries.specs.Entries.{EntryView}
+use Rattle.gixobj_tree_entries.specs.TreeDecoding.{BeginsWithEntry, BeginsWithNoEntry}
 
 -- an entry of this mode begins at the offset, its name and its id have these positions, and the rest begins at `next`
 pub record IsEntryAt (hash : Kind) (tree : List ℕ) (offset : ℕ) (out : TreeEntry) : Type 0 where

@@ -7,7 +7,7 @@ ghost use Rattle.gixobj_hash.specs.ByteStrings.{SplitsAt};
 
 use crate::spans::{Span, prefix_span, span_of};
 use gixobj_actor::actor::SignatureRef;
-use gixobj_calls::codes::{DONE, MALFORMED};
+use gixobj_c_codes::codes::{DONE, MALFORMED};
 use gixobj_hash::split::split_at_byte;
 
 /// The actor of a line.

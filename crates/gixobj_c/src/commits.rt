@@ -1,20 +1,20 @@
 //! The tokens of commits.
 ghost use Rattle.std.specs.Prelude.{◌≡◌, Some, drop};
 ghost use Rattle.bstr.specs.BStr.{bstr_bytes};
-ghost use Rattle.gixobj_calls.specs.Codes.{hash_of_code as hash_of};
+ghost use Rattle.gixobj_c_codes.specs.Codes.{hash_of_code as hash_of};
 ghost use Rattle.gixobj_c.specs.Commits.{BeginsWithLineAt, IsCommitTokenCall, IsTokenOfLine, state_of_code as state_of};
 ghost use Rattle.gixobj_c.specs.Spans.{HasPieceBefore, IsSpanOf};
 ghost use Rattle.gixobj_hash.specs.HeaderFormat.{BeginsWithHeader};
-ghost use Rattle.gixobj_fields.specs.HeaderReading.{header_of};
-ghost use Rattle.gixobj_line.specs.Lines.{header_line, line_view};
+ghost use Rattle.gixobj_parse.specs.HeaderReading.{header_of};
+ghost use Rattle.gixobj_grammar.specs.Lines.{header_line, line_view};
 
 use crate::spans::{Span, bytes_from, empty_span, offset_of, span_before};
 use bstr::BStr;
-use gixobj_calls::codes::{
+use gixobj_c_codes::codes::{
     AT_END, BAD_OFFSET, DONE, MALFORMED, OUT_OF_MEMORY, UNKNOWN_CODE, hash_of_code,
 };
 use gixobj_hash::decode::Error;
-use gixobj_line::lines::{Line, State, decode_line};
+use gixobj_grammar::lines::{Line, State, decode_line};
 use std::alloc::Global;
 use std::borrow::CowSlice;
 

@@ -1,11 +1,11 @@
 //! Several entries of a tree at once.
 ghost use Rattle.std.specs.Prelude.{◌≡◌, Some};
-ghost use Rattle.gixobj_calls.specs.Codes.{hash_of_code as hash_of};
+ghost use Rattle.gixobj_c_codes.specs.Codes.{hash_of_code as hash_of};
 ghost use Rattle.gixobj_c.specs.Entries.{IsTreeEntriesCall};
 
 use crate::spans::empty_span;
 use crate::trees::{TreeEntry, entry_or_end};
-use gixobj_calls::codes::{DONE, UNKNOWN_CODE, hash_of_code};
+use gixobj_c_codes::codes::{DONE, UNKNOWN_CODE, hash_of_code};
 use gixobj_hash::hash::Kind;
 
 /// Decodes entries from this offset of the tree on, as many as `out` holds, and writes their number to `count`.

@@ -1,13 +1,13 @@
 //! Extra headers of commits, by name.
 ghost use Rattle.std.specs.Prelude.{Some};
-ghost use Rattle.gixobj_calls.specs.Codes.{hash_of_code as hash_of};
+ghost use Rattle.gixobj_c_codes.specs.Codes.{hash_of_code as hash_of};
 ghost use Rattle.gixobj_c.specs.Headers.{IsCommitHeaderCall};
 
-use gixobj_calls::buffers::write_bytes;
-use gixobj_calls::codes::{MALFORMED, NOT_FOUND, OUT_OF_MEMORY, UNKNOWN_CODE, hash_of_code};
+use gixobj_c_codes::buffers::write_bytes;
+use gixobj_c_codes::codes::{MALFORMED, NOT_FOUND, OUT_OF_MEMORY, UNKNOWN_CODE, hash_of_code};
+use gixobj_grammar::headers::find_header;
 use gixobj_hash::decode::Error;
 use gixobj_hash::hash::Kind;
-use gixobj_line::headers::find_header;
 use std::alloc::Global;
 
 /// Writes the value of the first extra header of this name in a commit. Headers of several lines allocate, up to that

@@ -1,9 +1,9 @@
 //! Ids of objects.
-ghost use Rattle.gixobj_calls.specs.Codes.{hash_of_code as hash_of, kind_of_code as kind_of};
+ghost use Rattle.gixobj_c_codes.specs.Codes.{hash_of_code as hash_of, kind_of_code as kind_of};
 ghost use Rattle.gixobj_c.specs.Objects.{IsIdCall, IsVerifyCall};
 
-use gixobj_calls::buffers::write_prefix;
-use gixobj_calls::codes::{DONE, MISMATCH, UNKNOWN_CODE, hash_of_code, kind_of_code};
+use gixobj_c_codes::buffers::write_prefix;
+use gixobj_c_codes::codes::{DONE, MISMATCH, UNKNOWN_CODE, hash_of_code, kind_of_code};
 use gixobj_hash::compute_hash;
 
 /// Writes the id of the object of this kind and content at the beginning of `id` (git-hash-object): 20 bytes of

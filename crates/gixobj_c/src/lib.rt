@@ -1,7 +1,7 @@
 //! Calls for C, and for languages that call C: functions over bytes, which keep nothing and return nothing that is to
 //! be freed.
 //!
-//! Each call returns a status of [`gixobj_calls::codes`]. It writes what it found through its last parameters. If it
+//! Each call returns a status of [`gixobj_c_codes::codes`]. It writes what it found through its last parameters. If it
 //! fails, they are unchanged, except that the length that a buffer needs is always written.
 #![tactic(auto)]
 

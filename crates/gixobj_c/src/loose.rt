@@ -4,7 +4,7 @@ ghost use Rattle.std.specs.Str.Parse.{starts_with_minus};
 ghost use Rattle.gixobj_c.specs.Loose.{IsInvalidSize, IsLooseHeaderCall};
 ghost use Rattle.gixobj_hash.specs.Decode.{DecodesToSize, size_digits};
 
-use gixobj_calls::codes::{DONE, INVALID_SIZE, MALFORMED, UNKNOWN_KIND, kind_code};
+use gixobj_c_codes::codes::{DONE, INVALID_SIZE, MALFORMED, UNKNOWN_KIND, kind_code};
 use gixobj_hash::Kind;
 use gixobj_hash::split::{are_digits, number_from_digits, split_at_byte};
 

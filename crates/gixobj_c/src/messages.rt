@@ -3,8 +3,8 @@ ghost use Rattle.std.specs.Prelude.{◌≡◌};
 ghost use Rattle.gixobj_c.specs.Messages.{IsMessageOf, IsSummaryCall};
 
 use crate::spans::{Span, empty_span, prefix_span, span_of};
-use gixobj_calls::buffers::write_bytes;
-use gixobj_calls::codes::{DONE, OUT_OF_MEMORY};
+use gixobj_c_codes::buffers::write_bytes;
+use gixobj_c_codes::codes::{DONE, OUT_OF_MEMORY};
 use gixobj_text::commit::MessageRef;
 use std::alloc::Global;
 

@@ -1,13 +1,13 @@
 //! Whether bytes are the encoding of an object.
 ghost use Rattle.std.specs.Prelude.{MatchBool};
-ghost use Rattle.gixobj_calls.specs.Codes.{hash_of_code as hash_of, kind_of_code as kind_of};
+ghost use Rattle.gixobj_c_codes.specs.Codes.{hash_of_code as hash_of, kind_of_code as kind_of};
 ghost use Rattle.gixobj_c.specs.Objects.{IsCheckCall, IsObject, IsTree};
 
-use gixobj_calls::codes::{DONE, MALFORMED, UNKNOWN_CODE, hash_of_code, kind_of_code};
-use gixobj_entries::decode::decode_entry;
+use gixobj_c_codes::codes::{DONE, MALFORMED, UNKNOWN_CODE, hash_of_code, kind_of_code};
+use gixobj_grammar::commits::is_commit;
+use gixobj_grammar::tags::is_tag;
 use gixobj_hash::{Kind, hash};
-use gixobj_line::commits::is_commit;
-use gixobj_line::tags::is_tag;
+use gixobj_tree_entries::decode::decode_entry;
 
 /// Checks whether the bytes are the encoding of an object of this kind. Allocates nothing.
 #[unsafe(no_mangle)]

@@ -1,16 +1,18 @@
 //! Signatures of tags and commits, and what they sign.
 ghost use Rattle.std.specs.Prelude.{◌≡◌, ◌++◌, IfOk, Some};
-ghost use Rattle.gixobj_calls.specs.Codes.{hash_of_code as hash_of};
+ghost use Rattle.gixobj_c_codes.specs.Codes.{hash_of_code as hash_of};
 ghost use Rattle.gixobj_c.specs.Signatures.{IsCommitSignatureCall, IsTagSignatureCall};
 
 use crate::spans::{Span, span_before};
-use gixobj_calls::buffers::write_two;
-use gixobj_calls::codes::{DONE, MALFORMED, NOT_FOUND, OUT_OF_MEMORY, UNKNOWN_CODE, hash_of_code};
-use gixobj_fields::signature;
+use gixobj_c_codes::buffers::write_two;
+use gixobj_c_codes::codes::{
+    DONE, MALFORMED, NOT_FOUND, OUT_OF_MEMORY, UNKNOWN_CODE, hash_of_code,
+};
+use gixobj_grammar::headers::find_signature;
 use gixobj_hash::OutOfMemory;
 use gixobj_hash::decode::Error;
 use gixobj_hash::hash::Kind;
-use gixobj_line::headers::find_signature;
+use gixobj_parse::signature;
 use std::alloc::Global;
 
 /// Finds the signature of a tag. It signs all bytes before it. Allocates nothing.

@@ -1,17 +1,17 @@
 //! The tokens of tags.
 ghost use Rattle.std.specs.Prelude.{◌≡◌, ℕ, List, Some, drop};
 ghost use Rattle.bstr.specs.BStr.{bstr_bytes};
-ghost use Rattle.gixobj_calls.specs.Codes.{hash_of_code as hash_of};
+ghost use Rattle.gixobj_c_codes.specs.Codes.{hash_of_code as hash_of};
 ghost use Rattle.gixobj_c.specs.Tags.{BeginsWithTokenAt, HasBodyParts, IsFieldSpan, IsTagTokenCall, IsTokenOfBody, IsTokenOfTag, tag_state_of_code as state_of};
 ghost use Rattle.gixobj_hash.specs.HeaderFormat.{BeginsWithField};
 ghost use Rattle.gixobj_hash.specs.Optional.{bytes_if_some};
-ghost use Rattle.gixobj_line.specs.TagTokens.{tag_token_view};
+ghost use Rattle.gixobj_grammar.specs.TagTokens.{tag_token_view};
 
 use crate::commits::Cursor;
 use crate::spans::{Span, bytes_from, empty_span, offset_of, span_of};
 use bstr::BStr;
-use gixobj_calls::codes::{AT_END, BAD_OFFSET, DONE, MALFORMED, UNKNOWN_CODE, hash_of_code};
-use gixobj_line::tokens::{State, Token, decode_token};
+use gixobj_c_codes::codes::{AT_END, BAD_OFFSET, DONE, MALFORMED, UNKNOWN_CODE, hash_of_code};
+use gixobj_grammar::tokens::{State, Token, decode_token};
 
 /// A token of a tag: a part of its encoding.
 #[repr(C)]

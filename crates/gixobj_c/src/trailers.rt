@@ -5,8 +5,8 @@ ghost use Rattle.gixobj_c.specs.Trailers.{HasNoTrailerAt, HasTrailerAt, IsTraile
 ghost use Rattle.gixobj_text.specs.TrailerSteps.{trailer_view};
 
 use bstr::BStr;
-use gixobj_calls::buffers::write_two;
-use gixobj_calls::codes::{NOT_FOUND, OUT_OF_MEMORY};
+use gixobj_c_codes::buffers::write_two;
+use gixobj_c_codes::codes::{NOT_FOUND, OUT_OF_MEMORY};
 use gixobj_hash::memory::OutOfMemory;
 use gixobj_text::commit::message::body::TrailerRef;
 use gixobj_text::commit::message::message_trailers;

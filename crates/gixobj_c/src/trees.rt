@@ -1,15 +1,15 @@
 //! The entries of trees.
 ghost use Rattle.std.specs.Prelude.{◌≡◌, ◌<◌, Some, drop, length};
-ghost use Rattle.gixobj_calls.specs.Codes.{hash_of_code as hash_of};
+ghost use Rattle.gixobj_c_codes.specs.Codes.{hash_of_code as hash_of};
 ghost use Rattle.gixobj_c.specs.Trees.{IsEntryAt, IsTreeEntryCall};
-ghost use Rattle.gixobj_entries.specs.TreeDecoding.{BeginsWithEntry};
-ghost use Rattle.gixobj_entries.specs.EntryViews.{entry_view};
+ghost use Rattle.gixobj_tree_entries.specs.TreeDecoding.{BeginsWithEntry};
+ghost use Rattle.gixobj_tree_entries.specs.EntryViews.{entry_view};
 
 use crate::spans::{Span, bytes_from, offset_of, span_before};
-use gixobj_calls::codes::{AT_END, BAD_OFFSET, DONE, MALFORMED, UNKNOWN_CODE, hash_of_code};
-use gixobj_entries::EntryRef;
-use gixobj_entries::decode::decode_entry;
+use gixobj_c_codes::codes::{AT_END, BAD_OFFSET, DONE, MALFORMED, UNKNOWN_CODE, hash_of_code};
 use gixobj_hash::hash::Kind;
+use gixobj_tree_entries::EntryRef;
+use gixobj_tree_entries::decode::decode_entry;
 
 /// An entry of a tree.
 #[repr(C)]

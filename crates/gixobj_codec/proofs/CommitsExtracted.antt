@@ -11,8 +11,8 @@ use Rattle.std.specs.Cmp.Lexicographic.{bytes_decides, pointwise}
 use Rattle.std.proofs.lemmas.Grind.{flat_map-append}
 use Rattle.std.proofs.lemmas.List.Elements.{All-append, All-cons, All-head, All-nil, All-tail}
 use Rattle.gixobj_commit.specs.CommitWriting.{encode_commit}
-use Rattle.gixobj_line.specs.CommitSignatures.{signature_field, HasCommitSignature}
-use Rattle.gixobj_fields.proofs.HeaderFields.{header_unique}
+use Rattle.gixobj_grammar.specs.CommitSignatures.{signature_field, HasCommitSignature}
+use Rattle.gixobj_parse.proofs.HeaderFields.{header_unique}
 use Rattle.gixobj_encode.proofs.HeadersRoundTrip.{header_round_trips}
 use Rattle.gixobj_encode.specs.FieldWriting.{encode_header, value_lines}
 use Rattle.gixobj_hash.specs.HeaderFormat.{EndsHeader, BeginsWithField, BeginsWithHeader, Header, IsHeaderName, DecodesToHeader, encode_continuation, value_of_lines}
@@ -20,13 +20,13 @@ use Rattle.gixobj_hash.specs.FieldFormat.{encode_field, encode_line}
 use Rattle.gixobj_hash.specs.Runs.{BeginsWithPieces}
 use Rattle.gixobj_hash.specs.declared.hash.kind.Kind.{Kind}
 use Rattle.gixobj_hash.specs.declared.hash.kind.Kind.TheVariants as hash
-use Rattle.gixobj_line.specs.Commit.{DecodesToHeaders, CommitLines, before_encoding, encode_encoding, encode_ids, encode_parent}
-use Rattle.gixobj_line.specs.Lines.{BeginsWithLine, LineView, author_comes, committer_comes, encoding_comes, first_header_comes, first_message_comes, header_comes, header_line, message_comes, parent_comes, tree_comes}
-use Rattle.gixobj_line.specs.declared.lines.State.{State}
-use Rattle.gixobj_line.specs.declared.lines.State.TheVariants as state
+use Rattle.gixobj_grammar.specs.Commit.{DecodesToHeaders, CommitLines, before_encoding, encode_encoding, encode_ids, encode_parent}
+use Rattle.gixobj_grammar.specs.Lines.{BeginsWithLine, LineView, author_comes, committer_comes, encoding_comes, first_header_comes, first_message_comes, header_comes, header_line, message_comes, parent_comes, tree_comes}
+use Rattle.gixobj_grammar.specs.declared.lines.State.{State}
+use Rattle.gixobj_grammar.specs.declared.lines.State.TheVariants as state
 use Rattle.gixobj_hash.specs.Bytes.{newline, space}
 use Rattle.gixobj_hash.specs.ByteStrings.{IsByteFree}
-use Rattle.gixobj_line.specs.CommitHeaders.{IsNamedLine}
+use Rattle.gixobj_grammar.specs.CommitHeaders.{IsNamedLine}
 use Rattle.gixobj_commit.specs.CommitSigning.{is_header_named, with_signature, without_headers}
 use Rattle.gixobj_codec.specs.LineFields.{HasHeaderNames, HasLineFields, IsOneLine}
 

@@ -11,7 +11,7 @@ use Rattle.gixobj_commit.specs.CommitWriting.{IsMessageEncodingError, IsOwnedCom
 use Rattle.gixobj_commit.specs.declared.commit.Commit.{Commit}
 use Rattle.gixobj_streams.specs.Writing.{RejectedValue, RejectsNothing, header_with_newline, illegal_actor}
 use Rattle.gixobj_hash.specs.Hash.{encode_id_hex, is_lower_hex_digit}
-use Rattle.gixobj_line.specs.Commit.{before_encoding}
+use Rattle.gixobj_grammar.specs.Commit.{before_encoding}
 use Rattle.gixobj_hash.specs.Bytes.{greater_than, less_than, newline}
 use Rattle.gixobj_hash.specs.Optional.{owned_bytes_if_some}
 use Rattle.gixobj_hash.specs.ByteStrings.{IsByteFree}

@@ -8,21 +8,21 @@ use Rattle.std.specs.List.{flat_map}
 use Rattle.std.specs.Prelude.{if◌then◌else◌, map}
 use Rattle.gixobj_commit.specs.CommitSigning.{is_header_named, payload_of_commit, with_signature}
 use Rattle.gixobj_commit.specs.CommitWriting.{encode_commit}
-use Rattle.gixobj_line.specs.CommitSignatures.{signature_field, HasCommitSignature, HasNoSignature}
+use Rattle.gixobj_grammar.specs.CommitSignatures.{signature_field, HasCommitSignature, HasNoSignature}
 use Rattle.gixobj_encode.proofs.HeadersRoundTrip.{header_round_trips}
 use Rattle.gixobj_hash.proofs.Runs.{begins_with_pieces_snoc}
 use Rattle.gixobj_encode.specs.FieldWriting.{encode_header, value_lines}
 use Rattle.gixobj_hash.specs.HeaderFormat.{BeginsWithHeader, Header, DecodesToHeader, value_of_lines}
 use Rattle.gixobj_hash.specs.Runs.{BeginsWithPieces, Yields, complete, yields_end, yields_piece}
 use Rattle.gixobj_hash.specs.declared.hash.kind.Kind.{Kind}
-use Rattle.gixobj_line.proofs.EntireCommits.{reaches_end, reaches_more}
-use Rattle.gixobj_line.proofs.LinesYielded.{yields_lines_of_commit}
-use Rattle.gixobj_line.proofs.OneLine.{no_header_of_newline}
-use Rattle.gixobj_line.specs.Commit.{CommitLines, DecodesToCommit, DecodesToHeaders, IsCommit, encoding_lines, lines_of_commit}
-use Rattle.gixobj_line.specs.Lines.{BeginsWithLine, LineView, author_line, committer_line, encoding_line, first_header_comes, header_comes, header_line, message_comes, message_line, parent_line, tree_line}
-use Rattle.gixobj_line.specs.declared.lines.State.{State}
-use Rattle.gixobj_line.specs.declared.lines.State.TheVariants as state
-use Rattle.gixobj_line.specs.CommitHeaders.{IsNamedLine}
+use Rattle.gixobj_grammar.proofs.EntireCommits.{reaches_end, reaches_more}
+use Rattle.gixobj_grammar.proofs.LinesYielded.{yields_lines_of_commit}
+use Rattle.gixobj_grammar.proofs.OneLine.{no_header_of_newline}
+use Rattle.gixobj_grammar.specs.Commit.{CommitLines, DecodesToCommit, DecodesToHeaders, IsCommit, encoding_lines, lines_of_commit}
+use Rattle.gixobj_grammar.specs.Lines.{BeginsWithLine, LineView, author_line, committer_line, encoding_line, first_header_comes, header_comes, header_line, message_comes, message_line, parent_line, tree_line}
+use Rattle.gixobj_grammar.specs.declared.lines.State.{State}
+use Rattle.gixobj_grammar.specs.declared.lines.State.TheVariants as state
+use Rattle.gixobj_grammar.specs.CommitHeaders.{IsNamedLine}
 use Rattle.gixobj_codec.proofs.CommitsExtracted.{Blocks, before_header, blocks_append, encodings_join, header_here, message_follows, payload_extracted, signature_split_unique, unlike_name, value_extracted}
 use Rattle.gixobj_codec.proofs.SameParts.{has_same_parts, leading, leading_blocks, line_fields_of_decoded}
 use Rattle.gixobj_codec.proofs.SignaturesFound.{ends_before_tail, none_there, signature_is_there}

@@ -2,24 +2,24 @@
 -- the body, so the signed bytes begin with the lines of the tag.
 use Rattle.std.proofs.Common.{◌≡◌, ◌≢◌, ◌≤◌, ◌∙◌, ℕ, List, [], ◌∷◌, ◌++◌, Option, Some, None, append_assoc, ap, arith, codes, length, refl, subst, sym}
 use Rattle.std.proofs.lemmas.List.{append_cancel_right}
-use Rattle.gixobj_fields.proofs.HeaderFields.{field_unique, first_bytes_eq}
+use Rattle.gixobj_parse.proofs.HeaderFields.{field_unique, first_bytes_eq}
 use Rattle.gixobj_hash.specs.HeaderFormat.{BeginsWithField}
 use Rattle.gixobj_hash.specs.FieldFormat.{encode_field}
 use Rattle.gixobj_hash.proofs.Headers.{kind_keyword_injective}
 use Rattle.gixobj_hash.specs.Kind.{kind_name}
 use Rattle.gixobj_hash.specs.declared.hash.kind.Kind.{Kind}
-use Rattle.gixobj_line.proofs.TagLines.{tagger_unique}
-use Rattle.gixobj_line.specs.TagLines.{BeginsWithTagger}
-use Rattle.gixobj_line.specs.TagPrefix.{IsTag}
-use Rattle.gixobj_line.specs.TagSignatures.{HasTagSignature}
+use Rattle.gixobj_grammar.proofs.TagLines.{tagger_unique}
+use Rattle.gixobj_grammar.specs.TagLines.{BeginsWithTagger}
+use Rattle.gixobj_grammar.specs.TagPrefix.{IsTag}
+use Rattle.gixobj_grammar.specs.TagSignatures.{HasTagSignature}
 use Rattle.gixobj_tag.proofs.EntireTags.{Reads, parts_of_decoded_tag}
 use Rattle.gixobj_tag.specs.Rewriting.{PreservesBody}
 use Rattle.gixobj_tag.specs.TagFormat.{DecodesToTag, TagLines, encode_tag_lines, encode_tagger}
-use Rattle.gixobj_line.specs.TagBodies.{IsBody, after_a_newline, newlines_alone}
+use Rattle.gixobj_grammar.specs.TagBodies.{IsBody, after_a_newline, newlines_alone}
 use Rattle.gixobj_tag.specs.TagSigning.{payload_of_tag, signed_as}
 use Rattle.gixobj_tag.specs.TagWriting.{encode_tag}
-use Rattle.gixobj_fields.proofs.MarkerPlaces.{no_marker_and_marker_place}
-use Rattle.gixobj_fields.specs.declared.signature.Format.{Format}
+use Rattle.gixobj_parse.proofs.MarkerPlaces.{no_marker_and_marker_place}
+use Rattle.gixobj_parse.specs.declared.signature.Format.{Format}
 use Rattle.gixobj_codec.proofs.TagsAgree.{AreAfter, IsFoundIn, after_lines, after_newline_alone, also_after, lines_joined, no_marker_in_newlines, one_signature, tag_found}
 use Rattle.gixobj_codec.proofs.TagsExtracted.{prefix_of_append_eq, has_marker_at_after_prefix, signed_tag_bytes}
 use Rattle.gixobj_codec.specs.ReceivedSignatures.{HasSameLines, SignsTag}

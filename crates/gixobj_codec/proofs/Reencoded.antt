@@ -11,7 +11,7 @@ use Rattle.gixobj_hash.specs.declared.hash.kind.Kind.{Kind}
 use Rattle.gixobj_encode.proofs.FieldWrites.{no_byte_of_byte_free}
 use Rattle.gixobj_encode.proofs.HeadersRoundTrip.{header_round_trips}
 use Rattle.gixobj_hash.proofs.HexCase.{lower_case_of_lower_hex}
-use Rattle.gixobj_line.specs.Commit.{DecodesToHeaders, CommitLines, DecodesToCommit, IsEncoding, encode_encoding, encode_parent}
+use Rattle.gixobj_grammar.specs.Commit.{DecodesToHeaders, CommitLines, DecodesToCommit, IsEncoding, encode_encoding, encode_parent}
 use Rattle.gixobj_commit.specs.CommitWriting.{IsMessageEncodingError, IsCommitLinesError, encode_commit, in_lower_case}
 use Rattle.gixobj_encode.specs.FieldWriting.{encode_header}
 

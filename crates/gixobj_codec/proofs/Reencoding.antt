@@ -17,7 +17,7 @@ use Rattle.gixobj_streams.specs.declared.encode.Error.TheVariants as encode
 use Rattle.gixobj_hash.specs.declared.hash.kind.Kind.{Kind}
 use Rattle.gixobj_hash.specs.declared.hash.object_id.ObjectId.{ObjectId}
 use Rattle.gixobj_hash.proofs.HexCase.{encode_id_hex_lower_case}
-use Rattle.gixobj_line.specs.Commit.{CommitLines, DecodesToCommit, IsEncoding}
+use Rattle.gixobj_grammar.specs.Commit.{CommitLines, DecodesToCommit, IsEncoding}
 use Rattle.gixobj_commit.specs.CommitOwned.{IsOwnedFormOfCommit, IsIntoOwnedCommitError}
 use Rattle.gixobj_commit.specs.CommitViews.{owned_commit_lines}
 use Rattle.gixobj_commit.specs.CommitWriting.{IsMessageEncodingError, IsOwnedCommitError, encode_commit}

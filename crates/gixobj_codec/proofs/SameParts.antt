@@ -4,8 +4,8 @@ use Rattle.std.proofs.lemmas.List.Elements.{All-cons, All-head, All-nil, All-tai
 use Rattle.std.specs.List.{flat_map}
 use Rattle.std.specs.Prelude.{map}
 use Rattle.gixobj_actor.specs.Actor.{NamesActor}
-use Rattle.gixobj_line.specs.CommitSignatures.{signature_field}
-use Rattle.gixobj_fields.proofs.HeaderFields.{header_unique, hex_digits_newline_free}
+use Rattle.gixobj_grammar.specs.CommitSignatures.{signature_field}
+use Rattle.gixobj_parse.proofs.HeaderFields.{header_unique, hex_digits_newline_free}
 use Rattle.gixobj_hash.proofs.Runs.{yields_after_pieces}
 use Rattle.gixobj_hash.specs.HeaderFormat.{BeginsWithHeader, Header}
 use Rattle.gixobj_hash.specs.FieldFormat.{encode_field}
@@ -14,12 +14,12 @@ use Rattle.gixobj_hash.specs.ByteStrings.{IsByteFree}
 use Rattle.gixobj_hash.specs.Bytes.{newline}
 use Rattle.gixobj_hash.specs.Hash.Hex.{IsIdHexOfKind}
 use Rattle.gixobj_hash.specs.declared.hash.kind.Kind.{Kind}
-use Rattle.gixobj_line.proofs.LinesYielded.{has_field_of_encode_field, yields_lines_of_commit}
-use Rattle.gixobj_line.proofs.OneLine.{line_unique, no_header_of_newline, no_line_of_nil}
-use Rattle.gixobj_line.specs.Commit.{CommitLines, DecodesToCommit, DecodesToHeaders, IsEncoding, before_encoding, encode_encoding, encode_parent, encoding_lines, lines_of_commit}
-use Rattle.gixobj_line.specs.Lines.{BeginsWithLine, LineView, author_comes, author_line, committer_comes, committer_line, header_line, message_line, parent_comes, parent_line, tree_comes, tree_line}
-use Rattle.gixobj_line.specs.declared.lines.State.{State}
-use Rattle.gixobj_line.specs.declared.lines.State.TheVariants as state
+use Rattle.gixobj_grammar.proofs.LinesYielded.{has_field_of_encode_field, yields_lines_of_commit}
+use Rattle.gixobj_grammar.proofs.OneLine.{line_unique, no_header_of_newline, no_line_of_nil}
+use Rattle.gixobj_grammar.specs.Commit.{CommitLines, DecodesToCommit, DecodesToHeaders, IsEncoding, before_encoding, encode_encoding, encode_parent, encoding_lines, lines_of_commit}
+use Rattle.gixobj_grammar.specs.Lines.{BeginsWithLine, LineView, author_comes, author_line, committer_comes, committer_line, header_line, message_line, parent_comes, parent_line, tree_comes, tree_line}
+use Rattle.gixobj_grammar.specs.declared.lines.State.{State}
+use Rattle.gixobj_grammar.specs.declared.lines.State.TheVariants as state
 use Rattle.gixobj_codec.proofs.CommitsExtracted.{Blocks, blocks_append, encoding_blocks, encodings_join, prefix_blocks}
 use Rattle.gixobj_codec.proofs.SignaturesFound.{comes_here}
 use Rattle.gixobj_codec.specs.LineFields.{HasLineFields, IsOneLine}

@@ -3,21 +3,21 @@
 use Rattle.std.proofs.Common.{◌≡◌, ◌≢◌, inl, inr, ◌<◌, arith, length, ℕ, List, [], ◌∷◌, ◌++◌, ◌∙◌, All, refl, sym, ap, subst, append_assoc}
 use Rattle.std.proofs.lemmas.List.Elements.{All-head, All-tail}
 use Rattle.gixobj_commit.specs.CommitWriting.{encode_commit}
-use Rattle.gixobj_line.specs.CommitSignatures.{signature_field, HasNoSignature, IsCommitSignatureError}
-use Rattle.gixobj_fields.proofs.HeaderFields.{header_unique}
+use Rattle.gixobj_grammar.specs.CommitSignatures.{signature_field, HasNoSignature, IsCommitSignatureError}
+use Rattle.gixobj_parse.proofs.HeaderFields.{header_unique}
 use Rattle.gixobj_encode.specs.FieldWriting.{encode_header}
 use Rattle.gixobj_hash.specs.HeaderFormat.{EndsHeader, BeginsWithHeader, BeginsWithNoHeader, Header, DecodesToHeader}
 use Rattle.gixobj_hash.specs.Runs.{Yields, broken, complete, yields_end, yields_error, yields_piece}
 use Rattle.gixobj_hash.specs.declared.decode.Error.TheVariants.{Malformed}
 use Rattle.gixobj_hash.specs.declared.hash.kind.Kind.{Kind}
-use Rattle.gixobj_line.proofs.LinesYielded.{yields_lines_of_commit}
-use Rattle.gixobj_line.proofs.OneLine.{header_len_lt, no_header_of_newline, no_line_of_nil, line_unique}
-use Rattle.gixobj_line.specs.Commit.{DecodesToHeaders, CommitLines, DecodesToCommit, lines_of_commit}
-use Rattle.gixobj_line.specs.Lines.{BeginsWithLine, LineView}
-use Rattle.gixobj_line.specs.declared.lines.State.{State}
-use Rattle.gixobj_line.specs.declared.lines.State.TheVariants as state
+use Rattle.gixobj_grammar.proofs.LinesYielded.{yields_lines_of_commit}
+use Rattle.gixobj_grammar.proofs.OneLine.{header_len_lt, no_header_of_newline, no_line_of_nil, line_unique}
+use Rattle.gixobj_grammar.specs.Commit.{DecodesToHeaders, CommitLines, DecodesToCommit, lines_of_commit}
+use Rattle.gixobj_grammar.specs.Lines.{BeginsWithLine, LineView}
+use Rattle.gixobj_grammar.specs.declared.lines.State.{State}
+use Rattle.gixobj_grammar.specs.declared.lines.State.TheVariants as state
 use Rattle.gixobj_codec.proofs.CommitsExtracted.{Blocks, IsBlockLine, block_line_of_header, has_header_last, has_header_before_last, ends_header_append, blocks_append, blocks_nil, read_again, signature_field_is_header_name, signed_payload, the_header, unsigned_prefix, written_blocks, encode_header_decodes}
-use Rattle.gixobj_line.specs.CommitHeaders.{IsNamedLine}
+use Rattle.gixobj_grammar.specs.CommitHeaders.{IsNamedLine}
 use Rattle.gixobj_commit.specs.CommitSigning.{with_signature}
 use Rattle.gixobj_codec.specs.LineFields.{HasHeaderNames, HasLineFields}
 

@@ -7,20 +7,20 @@ use Rattle.gixobj_commit.specs.CommitWriting.{IsOwnedCommitError, encode_commit}
 use Rattle.gixobj_commit.specs.declared.commit.Commit.{Commit}
 use Rattle.gixobj_streams.specs.Writing.{RejectsNothing}
 use Rattle.gixobj_hash.specs.Hash.{id_kind}
-use Rattle.gixobj_line.specs.Commit.{CommitLines, IsCommit}
-use Rattle.gixobj_report.specs.Calls.{Answer, CallView}
+use Rattle.gixobj_grammar.specs.Commit.{CommitLines, IsCommit}
+use Rattle.gixobj_signature_reports.specs.Calls.{Answer, CallView}
 use Rattle.gixobj_signature.specs.Plans.{CarriesOut}
 use Rattle.gixobj_signature.specs.Signing.{sign_options_view, sign_plan, signature}
 use Rattle.gixobj_signature.specs.declared.signature.sign.Error.{Error}
 use Rattle.gixobj_signature.specs.declared.signature.sign.Options.{Options}
-use Rattle.gixobj_line.specs.TagSignatures as tags
+use Rattle.gixobj_grammar.specs.TagSignatures as tags
 use Rattle.gixobj_tag.specs.TagSigning as tag
-use Rattle.gixobj_fields.specs.Markers.{HasNoMarker}
+use Rattle.gixobj_parse.specs.Markers.{HasNoMarker}
 use Rattle.gixobj_tag.specs.TagFormat.{TagLines}
 use Rattle.gixobj_tag.specs.TagViews as tag_views
 use Rattle.gixobj_tag.specs.TagWriting.{encode_tag}
 use Rattle.gixobj_tag.specs.declared.tag.Tag.{Tag}
-use Rattle.gixobj_line.specs.CommitSignatures as commits
+use Rattle.gixobj_grammar.specs.CommitSignatures as commits
 use Rattle.gixobj_codec.proofs.CommitsExtracted.{payload_extracted}
 use Rattle.gixobj_codec.proofs.ReceivedCommits.{signature_of_decoded}
 use Rattle.gixobj_codec.proofs.SignaturesFound.{signature_is_there}

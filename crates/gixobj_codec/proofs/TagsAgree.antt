@@ -8,17 +8,17 @@ use Rattle.bstr.specs.BStr.{bstr_bytes}
 use Rattle.gixobj_hash.specs.FieldFormat.{encode_field}
 use Rattle.gixobj_hash.specs.Kind.{kind_name}
 use Rattle.gixobj_hash.specs.declared.hash.kind.Kind.{Kind}
-use Rattle.gixobj_fields.proofs.MarkerPlaces.{no_marker_and_marker_place, format_of_marker_unique, marker_place_unique}
-use Rattle.gixobj_fields.specs.Markers.{BeginsWithMarker, HasNoMarker, IsMarkerOf, IsMarkerPlace, HasMarkerAt, StartsLine, pgp_message, pgp_signature, signed_message, ssh_signature}
-use Rattle.gixobj_fields.specs.declared.signature.Format.{Format}
-use Rattle.gixobj_fields.specs.declared.signature.SignatureRef.{SignatureRef}
-use Rattle.gixobj_ref_iter.specs.TagExtracting.{FindsSignatureOfTag}
-use Rattle.gixobj_line.specs.TagSignatures.{HasTagSignature}
+use Rattle.gixobj_parse.proofs.MarkerPlaces.{no_marker_and_marker_place, format_of_marker_unique, marker_place_unique}
+use Rattle.gixobj_parse.specs.Markers.{BeginsWithMarker, HasNoMarker, IsMarkerOf, IsMarkerPlace, HasMarkerAt, StartsLine, pgp_message, pgp_signature, signed_message, ssh_signature}
+use Rattle.gixobj_parse.specs.declared.signature.Format.{Format}
+use Rattle.gixobj_parse.specs.declared.signature.SignatureRef.{SignatureRef}
+use Rattle.gixobj_tokens.specs.TagExtracting.{FindsSignatureOfTag}
+use Rattle.gixobj_grammar.specs.TagSignatures.{HasTagSignature}
 use Rattle.gixobj_tag.proofs.EntireTags.{Reads, parts_of_decoded_tag}
-use Rattle.gixobj_line.specs.TagLines.{BeginsWithTagger}
+use Rattle.gixobj_grammar.specs.TagLines.{BeginsWithTagger}
 use Rattle.gixobj_tag.specs.Signed.{IsSignature}
 use Rattle.gixobj_tag.specs.TagFormat.{DecodesToTag, TagLines, encode_tag_lines, encode_tagger}
-use Rattle.gixobj_line.specs.TagBodies.{IsBody, IsParted, are_newlines, after_a_newline, newlines_alone, signed, signed_at_once, unsigned}
+use Rattle.gixobj_grammar.specs.TagBodies.{IsBody, IsParted, are_newlines, after_a_newline, newlines_alone, signed, signed_at_once, unsigned}
 use Rattle.gixobj_hash.proofs.Splits.{byte_free_of_all_pass}
 use Rattle.gixobj_hash.specs.ByteStrings.{IsByteFree}
 use Rattle.gixobj_signature.specs.SignedBytes.{signed_bytes}

@@ -2,11 +2,11 @@
 -- `TagsAgree`.
 use Rattle.std.proofs.Common.{◌≡◌, inl, inr, ◌≤◌, ◌-◌, ◌∙◌, ℕ, List, [], ◌∷◌, ◌++◌, Some, None, arith, length, refl, sym, ap, subst, append_assoc, append-nil}
 use Rattle.std.proofs.lemmas.List.{length-append}
-use Rattle.gixobj_fields.specs.Markers.{BeginsWithMarker, HasNoMarker, IsMarkerPlace, HasMarkerAt, StartsLine}
-use Rattle.gixobj_fields.specs.declared.signature.Format.{Format}
+use Rattle.gixobj_parse.specs.Markers.{BeginsWithMarker, HasNoMarker, IsMarkerPlace, HasMarkerAt, StartsLine}
+use Rattle.gixobj_parse.specs.declared.signature.Format.{Format}
 use Rattle.gixobj_tag.specs.TagFormat.{TagLines, encode_tag_lines}
 use Rattle.gixobj_tag.specs.TagWriting.{encode_message, encode_tag}
-use Rattle.gixobj_line.specs.TagSignatures.{HasTagSignature}
+use Rattle.gixobj_grammar.specs.TagSignatures.{HasTagSignature}
 use Rattle.gixobj_tag.specs.TagSigning.{payload_of_tag, signed_as}
 use Rattle.gixobj_codec.specs.OneMarker.{HasOneMarker}
 

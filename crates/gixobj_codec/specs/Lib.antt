@@ -13,18 +13,18 @@ pub use Rattle.gixobj_commit.specs.CommitViews
 pub use Rattle.gixobj_commit.specs.CommitWriting
 pub use Rattle.gixobj_commit.specs.ExtraHeaders
 pub use Rattle.gixobj_commit.specs.Mergetags
-pub use Rattle.gixobj_line.specs.RemainingHeaders
-pub use Rattle.gixobj_line.specs.RemainingParents
+pub use Rattle.gixobj_grammar.specs.RemainingHeaders
+pub use Rattle.gixobj_grammar.specs.RemainingParents
 pub use Rattle.gixobj_commit.specs.Rewriting
 pub use Rattle.gixobj_commit.specs.declared as commit
 pub use Rattle.gixobj_encode.specs.FieldWriting
 pub use Rattle.gixobj_encode.specs.declared as fields
-pub use Rattle.gixobj_entries.specs.EntryViews
-pub use Rattle.gixobj_entries.specs.TreeDecoding
-pub use Rattle.gixobj_entries.specs.declared as entries
-pub use Rattle.gixobj_fields.specs.HeaderReading
-pub use Rattle.gixobj_fields.specs.Markers
-pub use Rattle.gixobj_fields.specs.declared as formats
+pub use Rattle.gixobj_tree_entries.specs.EntryViews
+pub use Rattle.gixobj_tree_entries.specs.TreeDecoding
+pub use Rattle.gixobj_tree_entries.specs.declared as entries
+pub use Rattle.gixobj_parse.specs.HeaderReading
+pub use Rattle.gixobj_parse.specs.Markers
+pub use Rattle.gixobj_parse.specs.declared as formats
 pub use Rattle.gixobj_hash.specs.ByteStrings
 pub use Rattle.gixobj_hash.specs.Bytes
 pub use Rattle.gixobj_hash.specs.Decode
@@ -36,33 +36,33 @@ pub use Rattle.gixobj_hash.specs.Kind
 pub use Rattle.gixobj_hash.specs.Optional
 pub use Rattle.gixobj_hash.specs.Runs
 pub use Rattle.gixobj_hash.specs.declared as hash
-pub use Rattle.gixobj_line.specs.Commit
-pub use Rattle.gixobj_line.specs.CommitHeaders
-pub use Rattle.gixobj_line.specs.CommitSignatures
-pub use Rattle.gixobj_line.specs.Lines
-pub use Rattle.gixobj_line.specs.TagBodies
-pub use Rattle.gixobj_line.specs.TagLines
-pub use Rattle.gixobj_line.specs.TagPrefix
-pub use Rattle.gixobj_line.specs.TagSignatures
-pub use Rattle.gixobj_line.specs.TagTokens
-pub use Rattle.gixobj_line.specs.declared as line
+pub use Rattle.gixobj_grammar.specs.Commit
+pub use Rattle.gixobj_grammar.specs.CommitHeaders
+pub use Rattle.gixobj_grammar.specs.CommitSignatures
+pub use Rattle.gixobj_grammar.specs.Lines
+pub use Rattle.gixobj_grammar.specs.TagBodies
+pub use Rattle.gixobj_grammar.specs.TagLines
+pub use Rattle.gixobj_grammar.specs.TagPrefix
+pub use Rattle.gixobj_grammar.specs.TagSignatures
+pub use Rattle.gixobj_grammar.specs.TagTokens
+pub use Rattle.gixobj_grammar.specs.declared as line
 pub use Rattle.gixobj_object.specs.BorrowedObjects
 pub use Rattle.gixobj_object.specs.LooseObjects
 pub use Rattle.gixobj_object.specs.ObjectReading
 pub use Rattle.gixobj_object.specs.Objects
 pub use Rattle.gixobj_object.specs.Parts
 pub use Rattle.gixobj_object.specs.declared as object
-pub use Rattle.gixobj_ref_iter.specs.CommitExtracting
-pub use Rattle.gixobj_ref_iter.specs.CommitRuns
-pub use Rattle.gixobj_ref_iter.specs.CommitTokenSteps
-pub use Rattle.gixobj_ref_iter.specs.CommitTokens
-pub use Rattle.gixobj_ref_iter.specs.Readers
-pub use Rattle.gixobj_ref_iter.specs.TagExtracting
-pub use Rattle.gixobj_ref_iter.specs.TagReaders
-pub use Rattle.gixobj_ref_iter.specs.TagTokenSteps
-pub use Rattle.gixobj_ref_iter.specs.TokenFilters
-pub use Rattle.gixobj_ref_iter.specs.TokenSearch
-pub use Rattle.gixobj_ref_iter.specs.declared as ref_iter
+pub use Rattle.gixobj_tokens.specs.CommitExtracting
+pub use Rattle.gixobj_tokens.specs.CommitRuns
+pub use Rattle.gixobj_tokens.specs.CommitTokenSteps
+pub use Rattle.gixobj_tokens.specs.CommitTokens
+pub use Rattle.gixobj_tokens.specs.Readers
+pub use Rattle.gixobj_tokens.specs.TagExtracting
+pub use Rattle.gixobj_tokens.specs.TagReaders
+pub use Rattle.gixobj_tokens.specs.TagTokenSteps
+pub use Rattle.gixobj_tokens.specs.TokenFilters
+pub use Rattle.gixobj_tokens.specs.TokenSearch
+pub use Rattle.gixobj_tokens.specs.declared as ref_iter
 pub use Rattle.gixobj_store.specs.Checksums
 pub use Rattle.gixobj_store.specs.EntrySteps
 pub use Rattle.gixobj_store.specs.Lookups

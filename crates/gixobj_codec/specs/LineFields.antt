@@ -1,7 +1,7 @@
 -- Commits with valid header names, and without a newline in fields of one line (gitdatamodel, "commits").
 use Rattle.std.specs.Prelude.{ℕ, List, All, Option, Some, None, ⊤}
 use Rattle.gixobj_hash.specs.HeaderFormat.{IsHeaderName}
-use Rattle.gixobj_line.specs.Commit.{CommitLines}
+use Rattle.gixobj_grammar.specs.Commit.{CommitLines}
 use Rattle.gixobj_hash.specs.Bytes.{newline}
 use Rattle.gixobj_hash.specs.ByteStrings.{IsByteFree}
 

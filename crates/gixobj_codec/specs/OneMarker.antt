@@ -1,7 +1,7 @@
 -- Signatures with one marker (gitformat-signature, "DESCRIPTION").
 use Rattle.std.specs.Prelude.{◌≡◌, ℕ, List}
-use Rattle.gixobj_fields.specs.Markers.{BeginsWithMarker, HasMarkerAt}
-use Rattle.gixobj_fields.specs.declared.signature.Format.{Format}
+use Rattle.gixobj_parse.specs.Markers.{BeginsWithMarker, HasMarkerAt}
+use Rattle.gixobj_parse.specs.declared.signature.Format.{Format}
 
 -- the bytes begin with a marker, and no other line begins with one
 pub record HasOneMarker (bytes : List ℕ) : Type 0 where

@@ -3,10 +3,10 @@ use Rattle.std.specs.Prelude.{◌≡◌, ℕ, List, [], ◌∷◌, ◌++◌, Som
 use Rattle.gixobj_commit.specs.CommitSigning.{is_header_named}
 use Rattle.gixobj_commit.specs.CommitWriting.{encode_commit}
 use Rattle.gixobj_commit.specs.ExtraHeaders.{HasNoHeaderNamed}
-use Rattle.gixobj_line.specs.CommitSignatures.{signature_field}
+use Rattle.gixobj_grammar.specs.CommitSignatures.{signature_field}
 use Rattle.gixobj_hash.specs.HeaderFormat.{Header}
 use Rattle.gixobj_hash.specs.declared.hash.kind.Kind.{Kind}
-use Rattle.gixobj_line.specs.Commit.{CommitLines, DecodesToCommit, IsEncoding}
+use Rattle.gixobj_grammar.specs.Commit.{CommitLines, DecodesToCommit, IsEncoding}
 use Rattle.gixobj_tag.specs.Rewriting.{PreservesBody}
 use Rattle.gixobj_tag.specs.TagFormat.{DecodesToTag, TagLines}
 use Rattle.gixobj_tag.specs.TagSigning.{payload_of_tag}

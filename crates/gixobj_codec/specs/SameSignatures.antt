@@ -1,7 +1,7 @@
 -- Signatures of tags, found in two ways (gitformat-signature, "Tag signatures").
 use Rattle.std.specs.Prelude.{◌≡◌, Option, Some, None, ⊤}
 use Rattle.bstr.specs.BStr.{bstr_bytes}
-use Rattle.gixobj_fields.specs.declared.signature.SignatureRef.{SignatureRef}
+use Rattle.gixobj_parse.specs.declared.signature.SignatureRef.{SignatureRef}
 use Rattle.gixobj_signature.specs.declared.signature.signed_data.SignedData.{SignedData}
 
 -- a tag's own signature, and the one found in an encoding with the data that it signs: both none, or the same bytes and

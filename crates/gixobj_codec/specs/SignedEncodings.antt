@@ -3,15 +3,15 @@ use Rattle.std.specs.Prelude.{◌≡◌, ℕ, List}
 use Rattle.gixobj_encode.specs.FieldWriting.{value_lines}
 use Rattle.gixobj_hash.specs.HeaderFormat.{value_of_lines}
 use Rattle.gixobj_hash.specs.declared.hash.kind.Kind.{Kind}
-use Rattle.gixobj_report.specs.Calls.{Answer, CallView}
+use Rattle.gixobj_signature_reports.specs.Calls.{Answer, CallView}
 use Rattle.gixobj_signature.specs.Plans.{CarriesOut}
 use Rattle.gixobj_signature.specs.Signing.{sign_options_view, sign_plan, signature}
 use Rattle.gixobj_signature.specs.declared.signature.sign.Options.{Options}
 use Rattle.gixobj_codec.specs.OneMarker.{HasOneMarker}
-use Rattle.gixobj_fields.specs.Markers.{HasNoMarker}
-use Rattle.gixobj_fields.specs.declared.signature.Format.{Format}
-use Rattle.gixobj_line.specs.TagSignatures as tags
-use Rattle.gixobj_line.specs.CommitSignatures as commits
+use Rattle.gixobj_parse.specs.Markers.{HasNoMarker}
+use Rattle.gixobj_parse.specs.declared.signature.Format.{Format}
+use Rattle.gixobj_grammar.specs.TagSignatures as tags
+use Rattle.gixobj_grammar.specs.CommitSignatures as commits
 
 -- the calls that were made carried out the plan for this payload, and led to a signature
 abbrev pub WasSigned : {S : Type 0} → (S → CallView → Answer → S → Type 0) → Options → List ℕ → S → S → Type 0

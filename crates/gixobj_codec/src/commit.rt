@@ -7,5 +7,5 @@ pub use gixobj_commit::{
     BorrowedHeaders, ExtraHeaders, FindAll, Mergetags, OwnedHeaders, Parents, SIGNATURE_FIELD_NAME,
     SIGNATURE_FIELD_NAME_SHA256, signature_field_name,
 };
-pub use gixobj_ref_iter::{CommitRefIter, commit as ref_iter};
 pub use gixobj_text::commit::MessageRef;
+pub use gixobj_tokens::{CommitRefIter, commit as ref_iter};

@@ -18,10 +18,6 @@ pub use commits::{
 };
 pub use gixobj_encode::laws::header_round_trips;
 pub use gixobj_hash::laws::hex_decodes_uniquely;
-pub use gixobj_ref_iter::laws::{
-    consumed_tag_tokens_are_prefix, readers, tag_part_search_complete, tag_readers_agree,
-    tag_tokens_decode_uniquely, tokens,
-};
 pub use gixobj_store::laws::{
     consumed_entries_are_prefix, id_equality_is_decidable, object_map_insert,
     remaining_bytes_are_suffix, tree_readers_agree,
@@ -29,6 +25,10 @@ pub use gixobj_store::laws::{
 pub use gixobj_tag::laws::{
     owned_tag_has_same_parts, tag_decode_encode_agree, tag_decodes_uniquely,
     tag_reencodes_identically,
+};
+pub use gixobj_tokens::laws::{
+    consumed_tag_tokens_are_prefix, readers, tag_part_search_complete, tag_readers_agree,
+    tag_tokens_decode_uniquely, tokens,
 };
 pub use gixobj_tree::laws::{tree_decodes_uniquely, tree_reencodes_identically, tree_round_trips};
 pub use headers::{

@@ -17,9 +17,9 @@ pub mod tree;
 
 pub use gixobj_commit::{Commit, CommitRef};
 pub use gixobj_object::{DataExt, LooseDecodeError, Object, ObjectRef};
-pub use gixobj_ref_iter::{CommitRefIter, TagRefIter};
 pub use gixobj_store::{
     Data, Exists, Find, FindHeader, FindObjectOrHeader, Store, TreeRefIter, data, find,
 };
 pub use gixobj_tag::{Tag, TagRef};
+pub use gixobj_tokens::{CommitRefIter, TagRefIter};
 pub use gixobj_tree::TreeRef;

@@ -3,12 +3,12 @@
 ghost use Rattle.std.specs.Prelude.{ℕ, List};
 ghost use Rattle.gixobj_codec.specs.ReceivedSignatures.{HasFirstValue, SignsCommit, SignsTag, without_first_header};
 ghost use Rattle.gixobj_commit.specs.CommitWriting.{encode_commit};
-ghost use Rattle.gixobj_line.specs.CommitSignatures.{signature_field, HasCommitSignature};
+ghost use Rattle.gixobj_grammar.specs.CommitSignatures.{signature_field, HasCommitSignature};
 ghost use Rattle.gixobj_hash.specs.declared.hash.kind.Kind.{Kind};
-ghost use Rattle.gixobj_line.specs.Commit.{CommitLines, DecodesToCommit};
-ghost use Rattle.gixobj_line.specs.TagSignatures.{HasTagSignature};
+ghost use Rattle.gixobj_grammar.specs.Commit.{CommitLines, DecodesToCommit};
+ghost use Rattle.gixobj_grammar.specs.TagSignatures.{HasTagSignature};
 ghost use Rattle.gixobj_tag.specs.TagFormat.{DecodesToTag, TagLines};
-ghost use Rattle.gixobj_fields.specs.declared.signature.Format.{Format};
+ghost use Rattle.gixobj_parse.specs.declared.signature.Format.{Format};
 
 use gixobj_tag::laws::{tag_recognition_agrees, tag_reencodes_identically};
 

@@ -7,12 +7,12 @@ use Rattle.gixobj_commit.specs.CommitSigning.{GetsCommitSignature, IsSignedCommi
 use Rattle.gixobj_commit.specs.CommitViews.{owned_commit_lines}
 use Rattle.gixobj_commit.specs.CommitWriting.{IsOwnedCommitError, encode_commit}
 use Rattle.gixobj_commit.specs.declared.commit.Commit.{Commit}
-use Rattle.gixobj_line.specs.CommitSignatures.{signature_field}
+use Rattle.gixobj_grammar.specs.CommitSignatures.{signature_field}
 use Rattle.gixobj_streams.specs.Writing.{IsEncodingError, RejectedValue, RejectsNothing}
 use Rattle.gixobj_streams.specs.declared.encode.Error as encode
 use Rattle.gixobj_hash.specs.Hash.{id_kind}
-use Rattle.gixobj_line.specs.Commit.{CommitLines}
-use Rattle.gixobj_report.specs.Calls.{Answer, CallView}
+use Rattle.gixobj_grammar.specs.Commit.{CommitLines}
+use Rattle.gixobj_signature_reports.specs.Calls.{Answer, CallView}
 use Rattle.gixobj_signature.specs.Plans.{BeginsPlan, CarriesOut, IsCarriedOut, Plan, run_then, done, no_more}
 use Rattle.gixobj_signature.specs.Signing.{sign_options_view, sign_plan, signature, signer_error}
 use Rattle.gixobj_signature.specs.declared.signature.sign.Error.{Error}

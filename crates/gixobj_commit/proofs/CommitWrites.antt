@@ -14,13 +14,13 @@ use Rattle.bstr.specs.declared.bstring.BString.{BString}
 use Rattle.bstr.specs.Owned.{bstring_bytes}
 use Rattle.gixobj_actor.specs.ActorWriting.{IsLegal, IsActorFieldError, encode_owned_actor}
 use Rattle.gixobj_hash.specs.Hash.{DecodesToId, encode_id_hex}
-use Rattle.gixobj_fields.specs.HeaderReading.{header_of, owned_header_of}
+use Rattle.gixobj_parse.specs.HeaderReading.{header_of, owned_header_of}
 use Rattle.gixobj_hash.specs.FieldFormat.{encode_field}
 use Rattle.gixobj_streams.specs.Writing.{RejectedValue, RejectsNothing}
 use Rattle.gixobj_hash.specs.declared.hash.object_id.ObjectId.{ObjectId}
 use Rattle.gixobj_hash.proofs.HexCase.{encode_id_hex_lower_case}
 use Rattle.gixobj_commit.proofs.PartSteps.{IsInParts, in_parts}
-use Rattle.gixobj_line.specs.Commit.{before_encoding, encode_encoding, encode_ids, encode_parent}
+use Rattle.gixobj_grammar.specs.Commit.{before_encoding, encode_encoding, encode_ids, encode_parent}
 use Rattle.gixobj_commit.specs.CommitViews.{commit_lines, owned_commit_lines}
 use Rattle.gixobj_hash.specs.Optional.{bytes_if_some, owned_bytes_if_some}
 use Rattle.gixobj_commit.specs.CommitWriting.{IsMessageEncodingError, IsCommitLinesError, IsOwnedCommitError, encode_commit, hex_parent, in_lower_case, IsEncodingLineError}

@@ -4,11 +4,11 @@ use Rattle.std.specs.List.{AllZip}
 use Rattle.bstr.specs.Owned.{bstring_bytes}
 use Rattle.gixobj_actor.specs.Actor.{IsActor, IsNoActor, IsOwnedActor, IsTimeOrDefault, NamesActor}
 use Rattle.gixobj_hash.specs.Hash.{DecodesToId}
-use Rattle.gixobj_fields.specs.HeaderReading.{owned_header_of}
+use Rattle.gixobj_parse.specs.HeaderReading.{owned_header_of}
 use Rattle.gixobj_actor.specs.declared.date.Time.{Time}
 use Rattle.gixobj_hash.specs.declared.decode.Error.{Error}
 use Rattle.gixobj_hash.specs.declared.decode.Error.TheVariants.{Malformed, OutOfMemory}
-use Rattle.gixobj_line.specs.Commit.{CommitLines}
+use Rattle.gixobj_grammar.specs.Commit.{CommitLines}
 use Rattle.gixobj_hash.specs.Optional.{owned_bytes_if_some}
 use Rattle.gixobj_commit.specs.declared.commit.Commit.{Commit}
 

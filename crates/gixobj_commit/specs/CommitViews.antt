@@ -4,8 +4,8 @@ use Rattle.bstr.specs.BStr.{bstr_bytes}
 use Rattle.bstr.specs.Owned.{bstring_bytes}
 use Rattle.gixobj_actor.specs.ActorWriting.{encode_owned_actor}
 use Rattle.gixobj_hash.specs.Hash.{encode_id_hex}
-use Rattle.gixobj_fields.specs.HeaderReading.{BorrowsOneLine, header_of, owned_header_of}
-use Rattle.gixobj_line.specs.Commit.{CommitLines}
+use Rattle.gixobj_parse.specs.HeaderReading.{BorrowsOneLine, header_of, owned_header_of}
+use Rattle.gixobj_grammar.specs.Commit.{CommitLines}
 use Rattle.gixobj_commit.specs.declared.commit.Commit.{Commit}
 use Rattle.gixobj_commit.specs.declared.commit.CommitRef.{CommitRef}
 use Rattle.gixobj_hash.specs.Optional.{bytes_if_some, owned_bytes_if_some}

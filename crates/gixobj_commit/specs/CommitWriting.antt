@@ -10,7 +10,7 @@ use Rattle.gixobj_hash.specs.Hash.Hex.{decoded_id}
 use Rattle.gixobj_encode.specs.FieldWriting.{IsValueError, encode_header}
 use Rattle.gixobj_hash.specs.FieldFormat.{encode_field}
 use Rattle.gixobj_streams.specs.Writing.{RejectedValue, illegal_actor}
-use Rattle.gixobj_line.specs.Commit.{CommitLines, before_encoding, encode_encoding, encode_ids, encode_parent}
+use Rattle.gixobj_grammar.specs.Commit.{CommitLines, before_encoding, encode_encoding, encode_ids, encode_parent}
 use Rattle.gixobj_commit.specs.CommitViews.{owned_commit_lines}
 use Rattle.gixobj_commit.specs.declared.commit.Commit.{Commit}
 use Rattle.gixobj_hash.specs.Bytes.{newline, space}

@@ -9,7 +9,7 @@ use Rattle.gixobj_hash.specs.HeaderFormat.{Header}
 use Rattle.gixobj_commit.specs.declared.extra_headers.ExtraHeaders.{ExtraHeaders}
 use Rattle.gixobj_commit.specs.declared.extra_headers.FindAll.{FindAll}
 use Rattle.gixobj_hash.specs.declared.hash.kind.Kind.{Kind}
-pub use Rattle.gixobj_line.specs.RemainingHeaders.{pair_of}
+pub use Rattle.gixobj_grammar.specs.RemainingHeaders.{pair_of}
 
 -- the iterator that yields the headers
 abbrev pub iterator_of : {I : Type 0} → ExtraHeaders I → I

@@ -9,7 +9,7 @@ pub use Rattle.gixobj_actor.specs.Actor
 pub use Rattle.gixobj_actor.specs.ActorWriting
 pub use Rattle.gixobj_actor.specs.Date
 pub use Rattle.gixobj_encode.specs.FieldWriting
-pub use Rattle.gixobj_fields.specs.HeaderReading
+pub use Rattle.gixobj_parse.specs.HeaderReading
 pub use Rattle.gixobj_hash.specs.HeaderFormat
 pub use Rattle.gixobj_hash.specs.FieldFormat
 pub use Rattle.gixobj_streams.specs.Streams
@@ -19,6 +19,6 @@ pub use Rattle.gixobj_hash.specs.Encode
 pub use Rattle.gixobj_hash.specs.Hash
 pub use Rattle.gixobj_hash.specs.Kind
 pub use Rattle.gixobj_hash.specs.ByteStrings
-pub use Rattle.gixobj_line.specs.Commit
-pub use Rattle.gixobj_line.specs.Lines
-pub use Rattle.gixobj_line.specs.CommitSignatures
+pub use Rattle.gixobj_grammar.specs.Commit
+pub use Rattle.gixobj_grammar.specs.Lines
+pub use Rattle.gixobj_grammar.specs.CommitSignatures

@@ -5,7 +5,7 @@ use Rattle.gixobj_actor.specs.ActorWriting.{IsCanonical, IsUnwritable}
 use Rattle.gixobj_streams.specs.Streams.{AppendsPrefix, SinkView}
 use Rattle.gixobj_streams.specs.declared.encode.Error.{Error}
 use Rattle.gixobj_streams.specs.declared.encode.Error.TheVariants as error
-use Rattle.gixobj_line.specs.Commit.{CommitLines}
+use Rattle.gixobj_grammar.specs.Commit.{CommitLines}
 
 -- the parts of an owned copy: ids in lower case, actors normalized by their decoder and encoder, all else unchanged
 pub record AreNormalizedPartsOfCommit (commit own : CommitLines) : Type 0 where

@@ -4,14 +4,14 @@ ghost use Rattle.std.specs.List.{AllZip};
 ghost use Rattle.bstr.specs.BStr.{bstr_bytes};
 ghost use Rattle.gixobj_actor.specs.Actor.{IsActor, IsNoActor, IsTrimmedActor};
 ghost use Rattle.gixobj_hash.specs.Hash.{IsIdHex, DecodesToId, id_kind};
-ghost use Rattle.gixobj_fields.specs.HeaderReading.{owned_header_of};
+ghost use Rattle.gixobj_parse.specs.HeaderReading.{owned_header_of};
 ghost use Rattle.gixobj_hash.specs.declared.decode.Error.TheVariants.{Malformed};
-ghost use Rattle.gixobj_line.specs.RemainingParents.{remaining_parents};
+ghost use Rattle.gixobj_grammar.specs.RemainingParents.{remaining_parents};
 ghost use Rattle.gixobj_commit.specs.CommitOwned.{IsOwnedFormOfCommit, IsTimeOfLine, IsIntoOwnedCommitError};
 ghost use Rattle.gixobj_commit.specs.CommitViews.{commit_lines};
 ghost use Rattle.gixobj_commit.specs.CommitWriting.{HasIds};
 ghost use Rattle.gixobj_commit.specs.ExtraHeaders.{hash_kind_of, iterator_of};
-ghost use Rattle.gixobj_line.specs.RemainingHeaders.{remaining_headers, remaining_owned_headers};
+ghost use Rattle.gixobj_grammar.specs.RemainingHeaders.{remaining_headers, remaining_owned_headers};
 ghost use Rattle.gixobj_hash.specs.Hash.Hex.{IsIdHexOfKind};
 
 mod decode;

@@ -4,16 +4,16 @@ ghost use Rattle.std.specs.Prelude.{◌≡◌, ◌↔◌, ◌<◌, ◌^◌, IsTr
 ghost use Rattle.bstr.specs.BStr.{bstr_bytes};
 ghost use Rattle.std.specs.Iterator.{IsFinite, MakesProgress, size};
 ghost use Rattle.gixobj_commit.specs.ExtraHeaders.{FindsPosition, FindsValue, NextValue, hash_kind_of, iterator_of, searched, searched_name};
-ghost use Rattle.gixobj_line.specs.CommitSignatures.{signature_field};
+ghost use Rattle.gixobj_grammar.specs.CommitSignatures.{signature_field};
 ghost use Rattle.gixobj_commit.specs.Mergetags.{IsTagOf, mergetag_kind, mergetag_values};
 
 use bstr::BStr;
-use gixobj_hash::decode::Error;
-use gixobj_hash::hash::Kind;
-pub use gixobj_line::extra_headers::{BorrowedHeaders, OwnedHeaders};
-pub use gixobj_line::headers::{
+pub use gixobj_grammar::extra_headers::{BorrowedHeaders, OwnedHeaders};
+pub use gixobj_grammar::headers::{
     SIGNATURE_FIELD_NAME, SIGNATURE_FIELD_NAME_SHA256, signature_field_name,
 };
+use gixobj_hash::decode::Error;
+use gixobj_hash::hash::Kind;
 use gixobj_tag::TagRef;
 
 /// The extra headers of a commit, searched by name. [`crate::CommitRef::extra_headers`] and

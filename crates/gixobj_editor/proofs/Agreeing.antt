@@ -3,14 +3,14 @@ use Rattle.std.proofs.Common.{◌≡◌, ◌≢◌, ⊎_elim, All, List, [], ◌
 use Rattle.std.proofs.lemmas.List.Elements.{All-head, All-tail, All-take}
 use Rattle.gixobj_store.proofs.Keeping.{named_insert_other, named_insert_same}
 use Rattle.gixobj_store.specs.Stores.{Objects, StoredObject, named}
-use Rattle.gixobj_directories.specs.Openings.{AreTreesOf, NamesTree}
-use Rattle.gixobj_files.proofs.ListedTables.{fitting_table}
-use Rattle.gixobj_files.specs.Files.{Table, Trees}
-use Rattle.gixobj_files.specs.Tables.{AgreesWithPairs, IsConsistentWith, IsNeverLookedUp}
+use Rattle.gixobj_editor_lookups.specs.Openings.{AreTreesOf, NamesTree}
+use Rattle.gixobj_editor_files.proofs.ListedTables.{fitting_table}
+use Rattle.gixobj_editor_files.specs.Files.{Table, Trees}
+use Rattle.gixobj_editor_files.specs.Tables.{AgreesWithPairs, IsConsistentWith, IsNeverLookedUp}
 use Rattle.gixobj_hash.specs.declared.hash.object_id.ObjectId.{ObjectId}
-use Rattle.gixobj_keep.specs.Keeping.{tree_object, with_tree, with_trees}
-use Rattle.gixobj_entries.specs.TreeDecoding.{DecodesToTree}
-use Rattle.gixobj_entries.specs.Entries.{EntryView, Pair}
+use Rattle.gixobj_store_keep.specs.Keeping.{tree_object, with_tree, with_trees}
+use Rattle.gixobj_tree_entries.specs.TreeDecoding.{DecodesToTree}
+use Rattle.gixobj_tree_entries.specs.Entries.{EntryView, Pair}
 use Rattle.gixobj_editor.specs.Commands.{emitted_pairs, kept_pairs}
 use Rattle.gixobj_editor.specs.RunTables.{AgreesWithObjects, AgreesWithRun, DecodesToItself}
 use Rattle.gixobj_editor.specs.declared.reply.Reply.{Reply}

@@ -2,16 +2,16 @@
 use Rattle.std.proofs.Common.{All, List, [], ◌∷◌, Ok}
 use Rattle.std.proofs.lemmas.List.Elements.{All-append, All-cons, All-nil}
 use Rattle.std.specs.List.{FoldsTo, flat_map}
-use Rattle.gixobj_commands.specs.declared.command.Command.{Command}
-use Rattle.gixobj_commands.specs.declared.command.Command.TheVariants as command
-use Rattle.gixobj_commands.specs.declared.command.Edit.{Edit}
-use Rattle.gixobj_commands.specs.declared.command.Edit.TheVariants as edit
-use Rattle.gixobj_open.specs.Paths.{names_of}
-use Rattle.gixobj_write.specs.declared.write.Written.{Written}
+use Rattle.gixobj_editor_commands.specs.declared.command.Command.{Command}
+use Rattle.gixobj_editor_commands.specs.declared.command.Command.TheVariants as command
+use Rattle.gixobj_editor_commands.specs.declared.command.Edit.{Edit}
+use Rattle.gixobj_editor_commands.specs.declared.command.Edit.TheVariants as edit
+use Rattle.gixobj_editor_open.specs.Paths.{names_of}
+use Rattle.gixobj_editor_write.specs.declared.write.Written.{Written}
 use Rattle.gixobj_editor.specs.Cursors.{cursor_path}
-use Rattle.gixobj_files.specs.Files.{Path}
-use Rattle.gixobj_files.specs.State.{State}
-use Rattle.gixobj_entries.specs.Entries.{Pair}
+use Rattle.gixobj_editor_files.specs.Files.{Path}
+use Rattle.gixobj_editor_files.specs.State.{State}
+use Rattle.gixobj_tree_entries.specs.Entries.{Pair}
 use Rattle.gixobj_editor.specs.Commands.{Location, at_cursor, at_root, emitted_pairs, pairs_of, pairs_of_edit}
 use Rattle.gixobj_editor.specs.Replies.{Answers, AreEditReplies, ReturnsTreeId, IsEditReply, IsReply, IsReplyAt, IsRun, IsWrittenAt}
 use Rattle.gixobj_editor.specs.declared.reply.EditReply.{EditReply}

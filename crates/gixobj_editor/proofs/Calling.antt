@@ -4,17 +4,17 @@ use Rattle.std.proofs.Common.{◌≡◌, ◌∙◌, List, [], ◌∷◌, Err, Ok
 use Rattle.std.specs.Fn.{Called, CalledAt, FnReturnsAt, Mut, Shared}
 use Rattle.std.specs.List.{FoldsTo}
 use denote.Ref.{Bor}
-use Rattle.gixobj_write.specs.Calls.{IsCallableOnTrees, IsStorable}
-use Rattle.gixobj_write.specs.WriteErrors.{IsWriteError}
-use Rattle.gixobj_write.specs.declared.write.Written.{Written}
-use Rattle.gixobj_write.specs.declared.write.WriteError.{WriteError}
-use Rattle.gixobj_write.specs.declared.write.WriteError.TheVariants as write
+use Rattle.gixobj_editor_write.specs.Calls.{IsCallableOnTrees, IsStorable}
+use Rattle.gixobj_editor_write.specs.WriteErrors.{IsWriteError}
+use Rattle.gixobj_editor_write.specs.declared.write.Written.{Written}
+use Rattle.gixobj_editor_write.specs.declared.write.WriteError.{WriteError}
+use Rattle.gixobj_editor_write.specs.declared.write.WriteError.TheVariants as write
 use Rattle.gixobj_editor.specs.Cursors.{IsWrittenBelow}
 use Rattle.gixobj_editor.specs.Writes.{IsWrittenEditor}
-use Rattle.gixobj_files.specs.Files.{Path}
-use Rattle.gixobj_files.specs.State.{State}
+use Rattle.gixobj_editor_files.specs.Files.{Path}
+use Rattle.gixobj_editor_files.specs.State.{State}
 use Rattle.gixobj_hash.specs.declared.hash.object_id.ObjectId.{ObjectId}
-use Rattle.gixobj_entries.specs.Entries.{EntryView, Pair}
+use Rattle.gixobj_tree_entries.specs.Entries.{EntryView, Pair}
 use Rattle.gixobj_editor.specs.Replies.{Answers, Denies, ReturnsTreeId}
 
 -- the members of the closure, and those of a reference to it

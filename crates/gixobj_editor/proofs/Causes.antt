@@ -3,24 +3,24 @@
 use Rattle.std.proofs.Common.{◌≡◌, ◌∷◌, [], ◌++◌, ℕ, Err, List, Ok, Result, append_assoc, append-nil, length, refl, subst, sym}
 use Rattle.std.specs.declared.alloc.Global.{Global}
 use Rattle.std.specs.declared.vec.Vec.{Vec}
-use Rattle.gixobj_directories.specs.Openings.{OfTrees}
+use Rattle.gixobj_editor_lookups.specs.Openings.{OfTrees}
 use Rattle.gixobj_editor.specs.Causes.{HasCausesAt, HasKeepCause, HasReplyCauses, HaveEditCauses, HaveRunCauses}
 use Rattle.gixobj_editor.specs.Commands.{Location, at_cursor}
 use Rattle.gixobj_editor.specs.Cursors.{IsEnsured}
 use Rattle.gixobj_editor.specs.Replies.{Answers, IsEditReply, IsReply, reply_to}
-use Rattle.gixobj_commands.specs.declared.command.Command.{Command}
-use Rattle.gixobj_commands.specs.declared.command.Edit.{Edit}
-use Rattle.gixobj_directories.specs.declared.error.Error.{Error}
+use Rattle.gixobj_editor_commands.specs.declared.command.Command.{Command}
+use Rattle.gixobj_editor_commands.specs.declared.command.Edit.{Edit}
+use Rattle.gixobj_editor_lookups.specs.declared.error.Error.{Error}
 use Rattle.gixobj_editor.specs.declared.reply.EditReply.{EditReply}
 use Rattle.gixobj_editor.specs.declared.reply.Reply.{Reply}
 use Rattle.gixobj_editor.specs.declared.reply.Reply.TheVariants as reply
 use Rattle.gixobj_editor.proofs.LongerRuns.{nil_of_len_zero}
-use Rattle.gixobj_files.specs.Files.{Path}
-use Rattle.gixobj_files.specs.State.{State}
-use Rattle.gixobj_keep.specs.Keeping.{IsStoreErrorAt, KeepErrors}
-use Rattle.gixobj_keep.specs.declared.keeping.KeepError.{KeepError}
+use Rattle.gixobj_editor_files.specs.Files.{Path}
+use Rattle.gixobj_editor_files.specs.State.{State}
+use Rattle.gixobj_store_keep.specs.Keeping.{IsStoreErrorAt, KeepErrors}
+use Rattle.gixobj_store_keep.specs.declared.keeping.KeepError.{KeepError}
 use Rattle.gixobj_store.specs.Stores.{Objects, StoreModel}
-use Rattle.gixobj_entries.specs.Entries.{Pair}
+use Rattle.gixobj_tree_entries.specs.Entries.{Pair}
 
 -- the cause of a write whose borrowed trees aren't all kept, in the store that was borrowed
 pub cause_of_borrowed_trees : {S : Type 0} (objects : S → Objects) (errors : KeepErrors S) (old start : S) (trees lent : List Pair) (count : ℕ)

@@ -3,27 +3,27 @@
 use Rattle.std.proofs.Common.{◌≡◌, ◌≢◌, ◌∙◌, ℕ, List, [], ◌∷◌, ◌++◌, Some, None, Result, Ok, Err, ap, refl, subst, sym}
 use Rattle.std.specs.Prelude.{IfErr, OnOk}
 use Rattle.gixobj_store.specs.Stores.{Objects, StoreModel}
-use Rattle.gixobj_directories.specs.Openings.{AreTreesOf}
-use Rattle.gixobj_directories.proofs.NamedTrees.{trees_of_objects_exist}
-use Rattle.gixobj_files.specs.Edits.{Opens}
-use Rattle.gixobj_files.specs.Files.{Path, Trees}
-use Rattle.gixobj_files.specs.Opening.{Dirs, IsOpened}
-use Rattle.gixobj_files.specs.State.{EditorFiles, State, open_bases, open_dirs}
-use Rattle.gixobj_files.proofs.EditedFiles.{same_files_refl}
-use Rattle.gixobj_files.proofs.OpenPrefixes.{removed_dirs_keep_prefix, upserted_dirs_keep_prefix}
-use Rattle.gixobj_files.proofs.StillOpenedOpenings.{opens_keeps_open_lists}
+use Rattle.gixobj_editor_lookups.specs.Openings.{AreTreesOf}
+use Rattle.gixobj_editor_lookups.proofs.NamedTrees.{trees_of_objects_exist}
+use Rattle.gixobj_editor_files.specs.Edits.{Opens}
+use Rattle.gixobj_editor_files.specs.Files.{Path, Trees}
+use Rattle.gixobj_editor_files.specs.Opening.{Dirs, IsOpened}
+use Rattle.gixobj_editor_files.specs.State.{EditorFiles, State, open_bases, open_dirs}
+use Rattle.gixobj_editor_files.proofs.EditedFiles.{same_files_refl}
+use Rattle.gixobj_editor_files.proofs.OpenPrefixes.{removed_dirs_keep_prefix, upserted_dirs_keep_prefix}
+use Rattle.gixobj_editor_files.proofs.StillOpenedOpenings.{opens_keeps_open_lists}
 use Rattle.gixobj_hash.specs.Hash.{null_id}
 use Rattle.gixobj_hash.specs.declared.hash.object_id.ObjectId.{ObjectId}
-use Rattle.gixobj_entries.specs.Entries.{EntryView}
-use Rattle.gixobj_directories.specs.EditNames.{from_root, directory_of}
+use Rattle.gixobj_tree_entries.specs.Entries.{EntryView}
+use Rattle.gixobj_editor_lookups.specs.EditNames.{from_root, directory_of}
 use Rattle.gixobj_editor.specs.Removals.{IsRemovedUpTo}
-use Rattle.gixobj_files.specs.Bases.{opened_bases}
-use Rattle.gixobj_directories.specs.declared.opening.NotLookedUp.TheVariants as not_looked_up
+use Rattle.gixobj_editor_files.specs.Bases.{opened_bases}
+use Rattle.gixobj_editor_lookups.specs.declared.opening.NotLookedUp.TheVariants as not_looked_up
 use Rattle.gixobj_editor.specs.Upserts.{IsUpserted}
-use Rattle.gixobj_directories.specs.FailedOpenings.{IsLookupError}
+use Rattle.gixobj_editor_lookups.specs.FailedOpenings.{IsLookupError}
 use Rattle.gixobj_editor.specs.FailedEdits.{IsAfterFailedEdit}
-use Rattle.gixobj_directories.specs.declared.error.Error.{Error}
-use Rattle.gixobj_directories.proofs.InPart.{none_in_part}
+use Rattle.gixobj_editor_lookups.specs.declared.error.Error.{Error}
+use Rattle.gixobj_editor_lookups.proofs.InPart.{none_in_part}
 
 -- if each open directory is still open, this one is
 open_of_unchanged_at : (old new : Dirs) (at : Path) → ((entries : List EntryView) → old at ≡ Some entries → new at ≡ Some entries) → old at ≢ None

@@ -6,44 +6,44 @@ use Rattle.std.specs.Prelude.{IfOk, OnOk}
 use Rattle.std.specs.FinMap as map
 use Rattle.std.specs.FinMap.{nat_cmp-IsAntisymmetric, slice_cmp-IsAntisymmetric}
 use Rattle.std.specs.List.{AllByRecursion}
-use Rattle.gixobj_entries.specs.Entries.{EntryView}
+use Rattle.gixobj_tree_entries.specs.Entries.{EntryView}
 use Rattle.gixobj_tree.specs.WellFormed.{IsEntryName}
 use Rattle.gixobj_hash.specs.Hash.{null_id}
 use Rattle.gixobj_hash.specs.declared.hash.kind.Kind.{Kind}
 use Rattle.gixobj_hash.specs.declared.hash.object_id.ObjectId.{ObjectId}
 use Rattle.gixobj_store.specs.Stores.{Objects, StoreModel}
-use Rattle.gixobj_files.specs.Edits.{IsNoTree, Opens, arrived, counted, upserted_dirs, raised}
-use Rattle.gixobj_files.specs.Files.{Path, SameFiles, Trees, Upserted}
-use Rattle.gixobj_files.specs.OpeningStops.{StopsOpening, IsUnopenedAbove}
-use Rattle.gixobj_files.specs.Opening.{Dirs, IsOpened, OpenFiles}
-use Rattle.gixobj_files.specs.State.{DirMap, EditorFiles, State, open_bases, open_dirs}
-use Rattle.gixobj_files.specs.Unopened.{is_unopened, looked_up_entry, unopened_count}
-use Rattle.gixobj_files.proofs.EditedFiles.{same_files_refl, same_files_trans, upserted_congruent}
-use Rattle.gixobj_files.proofs.StoppedOpenings.{halted_at, opens_known}
-use Rattle.gixobj_files.proofs.OpeningFiles.{opens_keeps_files, opens_makes_ready}
-use Rattle.gixobj_files.proofs.StillOpened.{is_opened_upserted}
-use Rattle.gixobj_files.proofs.StillOpenedOpenings.{is_opened_of_opens, opens_keeps_open_lists}
-use Rattle.gixobj_files.proofs.UnopenedCounts.{IsIdle, requested_count}
-use Rattle.gixobj_files.proofs.UpsertedFiles.{IsReady, upserted_dirs_files}
-use Rattle.gixobj_open.specs.Paths.{AreNames}
-use Rattle.gixobj_open.specs.Nested.{Opened, base_side, bases_of, dirs_of, entries_side, side_list}
-use Rattle.gixobj_directories.specs.Openings.{EndsBefore, IsOpenErrorAt}
-use Rattle.gixobj_open.proofs.BaseSteps.{editing as when_edited, base_none_where_unopened, opening as when_opened, unmoved}
-use Rattle.gixobj_directories.specs.declared.opening.NotLookedUp.{NotLookedUp}
-use Rattle.gixobj_directories.specs.declared.opening.NotLookedUp.TheVariants as not_looked_up
-use Rattle.gixobj_files.specs.Bases.{AreOpenedOn, base_edited, base_opened, edited_bases, opened_bases}
-use Rattle.gixobj_files.proofs.Calls.{opened_based, upserted_based}
-use Rattle.gixobj_directories.specs.declared.opening.Error as directory
-use Rattle.gixobj_directories.specs.declared.opening.Error.TheVariants as opening
-use Rattle.gixobj_directories.specs.EditNames.{IsFirstNameError, directory_of}
+use Rattle.gixobj_editor_files.specs.Edits.{IsNoTree, Opens, arrived, counted, upserted_dirs, raised}
+use Rattle.gixobj_editor_files.specs.Files.{Path, SameFiles, Trees, Upserted}
+use Rattle.gixobj_editor_files.specs.OpeningStops.{StopsOpening, IsUnopenedAbove}
+use Rattle.gixobj_editor_files.specs.Opening.{Dirs, IsOpened, OpenFiles}
+use Rattle.gixobj_editor_files.specs.State.{DirMap, EditorFiles, State, open_bases, open_dirs}
+use Rattle.gixobj_editor_files.specs.Unopened.{is_unopened, looked_up_entry, unopened_count}
+use Rattle.gixobj_editor_files.proofs.EditedFiles.{same_files_refl, same_files_trans, upserted_congruent}
+use Rattle.gixobj_editor_files.proofs.StoppedOpenings.{halted_at, opens_known}
+use Rattle.gixobj_editor_files.proofs.OpeningFiles.{opens_keeps_files, opens_makes_ready}
+use Rattle.gixobj_editor_files.proofs.StillOpened.{is_opened_upserted}
+use Rattle.gixobj_editor_files.proofs.StillOpenedOpenings.{is_opened_of_opens, opens_keeps_open_lists}
+use Rattle.gixobj_editor_files.proofs.UnopenedCounts.{IsIdle, requested_count}
+use Rattle.gixobj_editor_files.proofs.UpsertedFiles.{IsReady, upserted_dirs_files}
+use Rattle.gixobj_editor_open.specs.Paths.{AreNames}
+use Rattle.gixobj_editor_open.specs.Nested.{Opened, base_side, bases_of, dirs_of, entries_side, side_list}
+use Rattle.gixobj_editor_lookups.specs.Openings.{EndsBefore, IsOpenErrorAt}
+use Rattle.gixobj_editor_open.proofs.BaseSteps.{editing as when_edited, base_none_where_unopened, opening as when_opened, unmoved}
+use Rattle.gixobj_editor_lookups.specs.declared.opening.NotLookedUp.{NotLookedUp}
+use Rattle.gixobj_editor_lookups.specs.declared.opening.NotLookedUp.TheVariants as not_looked_up
+use Rattle.gixobj_editor_files.specs.Bases.{AreOpenedOn, base_edited, base_opened, edited_bases, opened_bases}
+use Rattle.gixobj_editor_files.proofs.Calls.{opened_based, upserted_based}
+use Rattle.gixobj_editor_lookups.specs.declared.opening.Error as directory
+use Rattle.gixobj_editor_lookups.specs.declared.opening.Error.TheVariants as opening
+use Rattle.gixobj_editor_lookups.specs.EditNames.{IsFirstNameError, directory_of}
 use Rattle.gixobj_editor.specs.Upserts.{IsUpserted, IsUpsertError}
-use Rattle.gixobj_directories.specs.FailedOpenings.{OpensInPart, IsLookupError, edit_error}
+use Rattle.gixobj_editor_lookups.specs.FailedOpenings.{OpensInPart, IsLookupError, edit_error}
 use Rattle.gixobj_editor.specs.FailedEdits.{IsAfterFailedEdit}
-use Rattle.gixobj_directories.specs.declared.error.Error.{Error}
-use Rattle.gixobj_directories.specs.declared.error.Error.TheVariants as error
-use Rattle.gixobj_directories.proofs.InPart.{halted_in_part, none_in_part, opened_in_part}
-use Rattle.gixobj_directories.proofs.ValidNames.{no_other_error}
-use Rattle.gixobj_directories.proofs.Paths.{directory_of_snoc, prefix_extends}
+use Rattle.gixobj_editor_lookups.specs.declared.error.Error.{Error}
+use Rattle.gixobj_editor_lookups.specs.declared.error.Error.TheVariants as error
+use Rattle.gixobj_editor_lookups.proofs.InPart.{halted_in_part, none_in_part, opened_in_part}
+use Rattle.gixobj_editor_lookups.proofs.ValidNames.{no_other_error}
+use Rattle.gixobj_editor_lookups.proofs.Paths.{directory_of_snoc, prefix_extends}
 
 -- the open directories of an editor
 abbrev pub map_of : Opened → DirMap

@@ -4,38 +4,38 @@ use Rattle.std.proofs.Common.{◌≡◌, ◌≢◌, ◌∙◌, ℕ, Bool, List, 
 use Rattle.std.proofs.lemmas.List.Elements.{recursion_from_All}
 use Rattle.std.specs.List.{AllByRecursion}
 use Rattle.gixobj_store.specs.Stores.{Objects}
-use Rattle.gixobj_open.specs.Paths.{AreNames}
-use Rattle.gixobj_open.specs.Nested.{Opened, dirs_of}
-use Rattle.gixobj_directories.specs.Openings.{IsOpenErrorAt}
-use Rattle.gixobj_directories.specs.declared.opening.Error as directory
-use Rattle.gixobj_directories.specs.declared.opening.Error.TheVariants as opening
-use Rattle.gixobj_files.specs.Edits.{IsNoTree, Opens, ensured_dirs, counted, raised}
-use Rattle.gixobj_files.specs.Files.{Ensured, Path, SameFiles, Trees}
-use Rattle.gixobj_files.specs.OpeningStops.{StopsOpening, IsEnteredOnPath, IsUnopenedAbove}
-use Rattle.gixobj_files.specs.Opening.{Dirs, IsOpened, OpenFiles}
-use Rattle.gixobj_files.specs.State.{State, open_dirs}
-use Rattle.gixobj_files.specs.Unopened.{with_empty_name}
-use Rattle.gixobj_files.proofs.BelowPrefix.{open_of_longer_open}
-use Rattle.gixobj_files.proofs.CursorFiles.{ensured_dirs_files}
-use Rattle.gixobj_files.proofs.StoppedOpenings.{halted_at, halted_unopened}
-use Rattle.gixobj_files.proofs.OpenPrefixes.{ensured_dirs_open_path}
-use Rattle.gixobj_files.proofs.StillOpenedEnsured.{is_opened_ensured}
-use Rattle.gixobj_files.proofs.StillOpenedOpenings.{is_opened_of_opens, opens_keeps_open_lists}
-use Rattle.gixobj_files.proofs.UnopenedCounts.{requested_count}
+use Rattle.gixobj_editor_open.specs.Paths.{AreNames}
+use Rattle.gixobj_editor_open.specs.Nested.{Opened, dirs_of}
+use Rattle.gixobj_editor_lookups.specs.Openings.{IsOpenErrorAt}
+use Rattle.gixobj_editor_lookups.specs.declared.opening.Error as directory
+use Rattle.gixobj_editor_lookups.specs.declared.opening.Error.TheVariants as opening
+use Rattle.gixobj_editor_files.specs.Edits.{IsNoTree, Opens, ensured_dirs, counted, raised}
+use Rattle.gixobj_editor_files.specs.Files.{Ensured, Path, SameFiles, Trees}
+use Rattle.gixobj_editor_files.specs.OpeningStops.{StopsOpening, IsEnteredOnPath, IsUnopenedAbove}
+use Rattle.gixobj_editor_files.specs.Opening.{Dirs, IsOpened, OpenFiles}
+use Rattle.gixobj_editor_files.specs.State.{State, open_dirs}
+use Rattle.gixobj_editor_files.specs.Unopened.{with_empty_name}
+use Rattle.gixobj_editor_files.proofs.BelowPrefix.{open_of_longer_open}
+use Rattle.gixobj_editor_files.proofs.CursorFiles.{ensured_dirs_files}
+use Rattle.gixobj_editor_files.proofs.StoppedOpenings.{halted_at, halted_unopened}
+use Rattle.gixobj_editor_files.proofs.OpenPrefixes.{ensured_dirs_open_path}
+use Rattle.gixobj_editor_files.proofs.StillOpenedEnsured.{is_opened_ensured}
+use Rattle.gixobj_editor_files.proofs.StillOpenedOpenings.{is_opened_of_opens, opens_keeps_open_lists}
+use Rattle.gixobj_editor_files.proofs.UnopenedCounts.{requested_count}
 use Rattle.gixobj_hash.specs.Hash.{null_id}
 use Rattle.gixobj_hash.specs.declared.hash.kind.Kind.{Kind}
 use Rattle.gixobj_hash.specs.declared.hash.object_id.ObjectId.{ObjectId}
-use Rattle.gixobj_entries.specs.Entries.{EntryView}
+use Rattle.gixobj_tree_entries.specs.Entries.{EntryView}
 use Rattle.gixobj_tree.specs.WellFormed.{IsEntryName}
 use Rattle.gixobj_editor.specs.Cursors.{IsEnsured, IsCursorError}
-use Rattle.gixobj_directories.specs.EditNames.{IsFirstNameError}
-use Rattle.gixobj_directories.specs.FailedOpenings.{edit_error}
-use Rattle.gixobj_directories.specs.declared.error.Error.{Error}
-use Rattle.gixobj_directories.specs.declared.error.Error.TheVariants as error
-use Rattle.gixobj_directories.proofs.ValidNames.{no_other_error}
+use Rattle.gixobj_editor_lookups.specs.EditNames.{IsFirstNameError}
+use Rattle.gixobj_editor_lookups.specs.FailedOpenings.{edit_error}
+use Rattle.gixobj_editor_lookups.specs.declared.error.Error.{Error}
+use Rattle.gixobj_editor_lookups.specs.declared.error.Error.TheVariants as error
+use Rattle.gixobj_editor_lookups.proofs.ValidNames.{no_other_error}
 use Rattle.gixobj_editor.proofs.Edited.{EditedSo, OpenedOn, OpenedSo, map_is_opened, no_tree_is_idle, map_dirs_at, edited_bases_of_map, tree_known_above, map_bases, map_dirs, map_is_opened_on, map_dirs_eq, state_of}
-use Rattle.gixobj_files.proofs.Calls.{ensured_based}
-use Rattle.gixobj_directories.proofs.Paths.{prefix_extends}
+use Rattle.gixobj_editor_files.proofs.Calls.{ensured_based}
+use Rattle.gixobj_editor_lookups.proofs.Paths.{prefix_extends}
 
 pub is_opened_after_ensured : (path : Path) (null : ObjectId) (mid ds : Opened) → AllByRecursion IsEntryName path → IsOpened (dirs_of mid)
     → ((at : Path) → dirs_of ds at ≡ ensured_dirs path null (dirs_of mid) at) → IsOpened (dirs_of ds)

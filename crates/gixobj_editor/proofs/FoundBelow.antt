@@ -1,11 +1,11 @@
 -- The entry at a path from a directory is that at the path from the root.
 use Rattle.std.proofs.Common.{◌≡◌, ◌∙◌, [], ◌∷◌, ◌++◌, None, refl, sym, ap}
-use Rattle.gixobj_open.proofs.Steps.{entry_at_none}
-use Rattle.gixobj_files.specs.Edits.{entry_at}
-use Rattle.gixobj_files.specs.Files.{Path}
-use Rattle.gixobj_files.specs.Opening.{Dirs, in_path}
-use Rattle.gixobj_files.proofs.OpenPrefixes.{entry_at_in_path}
-use Rattle.gixobj_directories.specs.EditNames.{from_root}
+use Rattle.gixobj_editor_open.proofs.Steps.{entry_at_none}
+use Rattle.gixobj_editor_files.specs.Edits.{entry_at}
+use Rattle.gixobj_editor_files.specs.Files.{Path}
+use Rattle.gixobj_editor_files.specs.Opening.{Dirs, in_path}
+use Rattle.gixobj_editor_files.proofs.OpenPrefixes.{entry_at_in_path}
+use Rattle.gixobj_editor_lookups.specs.EditNames.{from_root}
 
 pub entry_at_from_root : (prefix path : Path) (dirs inner : Dirs) → ((at : Path) → inner at ≡ dirs (prefix ++ at))
     → entry_at path inner ≡ entry_at (from_root prefix path) dirs

@@ -2,11 +2,11 @@
 use Rattle.std.proofs.Common.{◌≡◌, ◌+◌, ℕ, zero, suc, List, [], ◌∷◌, ◌++◌, Some, ap, length, refl, subst, sym, take, ◌∙◌}
 use Rattle.std.proofs.Math.Seq.{take-append-add}
 use Rattle.gixobj_store.specs.Stores.{Objects}
-use Rattle.gixobj_files.specs.Files.{Table}
-use Rattle.gixobj_entries.specs.Entries.{Pair}
-use Rattle.gixobj_files.specs.Tables.{AgreesWithPairs}
-use Rattle.gixobj_keep.proofs.Trees.{with_trees_append}
-use Rattle.gixobj_keep.specs.Keeping.{with_trees}
+use Rattle.gixobj_editor_files.specs.Files.{Table}
+use Rattle.gixobj_tree_entries.specs.Entries.{Pair}
+use Rattle.gixobj_editor_files.specs.Tables.{AgreesWithPairs}
+use Rattle.gixobj_store_keep.proofs.Trees.{with_trees_append}
+use Rattle.gixobj_store_keep.specs.Keeping.{with_trees}
 use Rattle.gixobj_editor.specs.RunTables.{AgreesWithObjects}
 use Rattle.gixobj_editor.proofs.KeptPairs.{all_first, all_then}
 

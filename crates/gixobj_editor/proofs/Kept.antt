@@ -1,14 +1,14 @@
 -- A write whose trees the store then keeps.
 use Rattle.std.proofs.Common.{◌≡◌, ◌∙◌, ℕ, All, List, ap, subst, sym}
-use Rattle.gixobj_commands.specs.declared.command.Edit.TheVariants as edit
+use Rattle.gixobj_editor_commands.specs.declared.command.Edit.TheVariants as edit
 use Rattle.gixobj_store.specs.Stores.{StoreModel, Objects}
-use Rattle.gixobj_write.specs.declared.write.Written.{Written}
-use Rattle.gixobj_files.specs.State.{State, with_store}
-use Rattle.gixobj_entries.specs.Entries.{Pair}
+use Rattle.gixobj_editor_write.specs.declared.write.Written.{Written}
+use Rattle.gixobj_editor_files.specs.State.{State, with_store}
+use Rattle.gixobj_tree_entries.specs.Entries.{Pair}
 use Rattle.gixobj_hash.specs.declared.hash.object_id.ObjectId.{ObjectId}
-use Rattle.gixobj_keep.specs.Keeping.{StopsKeepingAt, with_trees}
+use Rattle.gixobj_store_keep.specs.Keeping.{StopsKeepingAt, with_trees}
 use Rattle.gixobj_tree.specs.TreeEncoding.{IsEncodableTree}
-use Rattle.gixobj_keep.specs.declared.keeping.KeepError.{KeepError}
+use Rattle.gixobj_store_keep.specs.declared.keeping.KeepError.{KeepError}
 use Rattle.gixobj_editor.specs.Commands.{Location}
 use Rattle.gixobj_editor.specs.Replies.{Answers, IsEditReply, IsWriteKept, IsWrittenAt, KeepsAll}
 use Rattle.gixobj_editor.specs.declared.reply.EditReply.TheVariants as edit_reply

@@ -2,7 +2,7 @@
 use Rattle.std.proofs.Common.{All, List, [], ◌∷◌, ◌++◌}
 use Rattle.std.proofs.lemmas.List.Elements.{All-append, All-cons, All-head, All-nil, All-tail, All-take}
 use Rattle.std.specs.List.{flat_map}
-use Rattle.gixobj_entries.specs.Entries.{Pair}
+use Rattle.gixobj_tree_entries.specs.Entries.{Pair}
 use Rattle.gixobj_editor.specs.Commands.{kept_of, kept_of_edit, emitted_pairs, kept_pairs, pairs_of, pairs_of_edit}
 use Rattle.gixobj_editor.specs.declared.reply.EditReply.{EditReply}
 use Rattle.gixobj_editor.specs.declared.reply.EditReply.TheVariants as edit_reply

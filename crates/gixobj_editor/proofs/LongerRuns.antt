@@ -1,8 +1,8 @@
 -- Runs and lists of edits that are longer by one.
 use Rattle.std.proofs.Common.{◌≡◌, ◌∷◌, [], ◌++◌, List, append_assoc, append-nil, arith, refl, length}
-use Rattle.gixobj_commands.specs.declared.command.Command.{Command}
-use Rattle.gixobj_commands.specs.declared.command.Edit.{Edit}
-use Rattle.gixobj_files.specs.State.{State}
+use Rattle.gixobj_editor_commands.specs.declared.command.Command.{Command}
+use Rattle.gixobj_editor_commands.specs.declared.command.Edit.{Edit}
+use Rattle.gixobj_editor_files.specs.State.{State}
 use Rattle.gixobj_editor.specs.Commands.{Location}
 use Rattle.gixobj_editor.specs.Replies.{Answers, AreEditReplies, IsEditReply, IsReply, IsRun}
 use Rattle.gixobj_editor.specs.declared.reply.EditReply.{EditReply}

@@ -2,24 +2,24 @@
 -- uses it for `files_of_root`.
 use Rattle.std.proofs.Common.{◌≡◌, ◌∙◌, ⊎_elim, ℕ, zero, suc, List, [], ◌∷◌, ◌++◌, Some, ap, append_assoc, refl, subst, sym, take}
 use Rattle.std.specs.List.{flat_map}
-use Rattle.gixobj_commands.specs.declared.command.Command.{Command}
-use Rattle.gixobj_commands.specs.declared.command.Command.TheVariants as command
-use Rattle.gixobj_commands.specs.declared.command.Edit.{Edit}
-use Rattle.gixobj_commands.specs.declared.command.Edit.TheVariants as edit
+use Rattle.gixobj_editor_commands.specs.declared.command.Command.{Command}
+use Rattle.gixobj_editor_commands.specs.declared.command.Command.TheVariants as command
+use Rattle.gixobj_editor_commands.specs.declared.command.Edit.{Edit}
+use Rattle.gixobj_editor_commands.specs.declared.command.Edit.TheVariants as edit
 use Rattle.gixobj_store.specs.Stores.{StoreModel, Objects}
-use Rattle.gixobj_directories.proofs.NamedTrees.{trees_of_objects_exist}
-use Rattle.gixobj_open.specs.Paths.{names_of}
-use Rattle.gixobj_directories.specs.Openings.{AreTreesOf, OfTrees}
-use Rattle.gixobj_write.specs.declared.write.Written.{Written}
+use Rattle.gixobj_editor_lookups.proofs.NamedTrees.{trees_of_objects_exist}
+use Rattle.gixobj_editor_open.specs.Paths.{names_of}
+use Rattle.gixobj_editor_lookups.specs.Openings.{AreTreesOf, OfTrees}
+use Rattle.gixobj_editor_write.specs.declared.write.Written.{Written}
 use Rattle.gixobj_editor.specs.Cursors.{IsEnsured, cursor_path}
-use Rattle.gixobj_files.proofs.EditedFiles.{same_files_refl}
-use Rattle.gixobj_files.specs.Bases.{HasBases}
-use Rattle.gixobj_files.specs.Files.{NamedFiles, Path, SameFiles, Table, Trees}
-use Rattle.gixobj_files.specs.History.{FilesAfter, ensure}
-use Rattle.gixobj_files.specs.State.{EditorFiles, State, open_bases, open_dirs}
-use Rattle.gixobj_entries.specs.Entries.{Pair}
-use Rattle.gixobj_files.specs.Tables.{AgreesWithPairs, AgreesWithStore}
-use Rattle.gixobj_keep.specs.Keeping.{with_trees}
+use Rattle.gixobj_editor_files.proofs.EditedFiles.{same_files_refl}
+use Rattle.gixobj_editor_files.specs.Bases.{HasBases}
+use Rattle.gixobj_editor_files.specs.Files.{NamedFiles, Path, SameFiles, Table, Trees}
+use Rattle.gixobj_editor_files.specs.History.{FilesAfter, ensure}
+use Rattle.gixobj_editor_files.specs.State.{EditorFiles, State, open_bases, open_dirs}
+use Rattle.gixobj_tree_entries.specs.Entries.{Pair}
+use Rattle.gixobj_editor_files.specs.Tables.{AgreesWithPairs, AgreesWithStore}
+use Rattle.gixobj_store_keep.specs.Keeping.{with_trees}
 use Rattle.gixobj_editor.specs.Commands.{Location, accepted_steps, at_cursor, at_root, kept_of, kept_of_edit, emitted_pairs, kept_pairs, pairs_of, pairs_of_edit, pairs_of_write, steps_at, steps_of, steps_of_edit, steps_of_edits, written_at, written_by}
 use Rattle.gixobj_editor.specs.Replies.{Answers, AreEditReplies, IsEditReply, IsReply, IsReplyAt, IsRun, IsWriteKept, IsWrittenAt}
 use Rattle.gixobj_editor.specs.RunTables.{AgreesWithObjects, AgreesWithRun}
@@ -27,7 +27,7 @@ use Rattle.gixobj_editor.specs.declared.reply.EditReply.{EditReply}
 use Rattle.gixobj_editor.specs.declared.reply.EditReply.TheVariants as edit_reply
 use Rattle.gixobj_editor.specs.declared.reply.Reply.{Reply}
 use Rattle.gixobj_editor.specs.declared.reply.Reply.TheVariants as reply
-use Rattle.gixobj_files.proofs.Histories.{history_append_same_files}
+use Rattle.gixobj_editor_files.proofs.Histories.{history_append_same_files}
 use Rattle.gixobj_editor.proofs.Keeping.{AgreesThroughout, agrees_with_prefix, agrees_with_suffix, with_trees_append_stored, agrees_throughout_prefix, agrees_throughout_suffix}
 
 -- a store has trees, so that what holds for its trees holds for some

@@ -3,28 +3,28 @@ use Rattle.std.proofs.Common.{◌≡◌, ◌∙◌, ⊎_elim, ℕ, zero, suc, Li
 use Rattle.std.specs.FinMap as map
 use Rattle.std.specs.List.{AllByRecursion, flat_map}
 use Rattle.std.proofs.lemmas.List.Elements.{All-contains_itself, Contains-append_left, Contains-append_right, Contains-push, recursion_from_All}
-use Rattle.gixobj_directories.specs.Openings.{OfTrees}
-use Rattle.gixobj_commands.specs.declared.command.Command.{Command}
-use Rattle.gixobj_commands.specs.declared.command.Command.TheVariants as command
-use Rattle.gixobj_commands.specs.declared.command.Edit.{Edit}
-use Rattle.gixobj_commands.specs.declared.command.Edit.TheVariants as edit
+use Rattle.gixobj_editor_lookups.specs.Openings.{OfTrees}
+use Rattle.gixobj_editor_commands.specs.declared.command.Command.{Command}
+use Rattle.gixobj_editor_commands.specs.declared.command.Command.TheVariants as command
+use Rattle.gixobj_editor_commands.specs.declared.command.Edit.{Edit}
+use Rattle.gixobj_editor_commands.specs.declared.command.Edit.TheVariants as edit
 use Rattle.gixobj_store.specs.Stores.{StoreModel, Objects}
-use Rattle.gixobj_directories.proofs.NamedTrees.{trees_of_objects_exist}
-use Rattle.gixobj_open.specs.Paths.{names_of}
-use Rattle.gixobj_write.specs.declared.write.Written.{Written}
+use Rattle.gixobj_editor_lookups.proofs.NamedTrees.{trees_of_objects_exist}
+use Rattle.gixobj_editor_open.specs.Paths.{names_of}
+use Rattle.gixobj_editor_write.specs.declared.write.Written.{Written}
 use Rattle.gixobj_editor.specs.Cursors.{cursor_path}
-use Rattle.gixobj_files.proofs.Calls.{root_alone_has_bases}
-use Rattle.gixobj_files.proofs.EditedFiles.{root_alone_at_root, root_alone_below_root}
-use Rattle.gixobj_files.proofs.Everywhere.{Everywhere}
-use Rattle.gixobj_files.proofs.WellFormedEdits.{root_alone_is_opened}
-use Rattle.gixobj_files.proofs.PlainHistories.{IsUpTo}
-use Rattle.gixobj_files.proofs.Plain.{HasBuilt, Plain, all_joined, all_remaining, all_right}
-use Rattle.gixobj_files.specs.Bases.{HasBases}
-use Rattle.gixobj_files.specs.Files.{NamedFiles, Path, Table, Trees}
-use Rattle.gixobj_files.specs.Opening.{Dirs, HasAt, IsOpened}
-use Rattle.gixobj_files.specs.State.{DirMap, State, open_bases, open_dirs, root_alone}
-use Rattle.gixobj_files.specs.Tables.{AgreesWithPairs, AgreesWithStore}
-use Rattle.gixobj_entries.specs.Entries.{EntryView, Pair}
+use Rattle.gixobj_editor_files.proofs.Calls.{root_alone_has_bases}
+use Rattle.gixobj_editor_files.proofs.EditedFiles.{root_alone_at_root, root_alone_below_root}
+use Rattle.gixobj_editor_files.proofs.Everywhere.{Everywhere}
+use Rattle.gixobj_editor_files.proofs.WellFormedEdits.{root_alone_is_opened}
+use Rattle.gixobj_editor_files.proofs.PlainHistories.{IsUpTo}
+use Rattle.gixobj_editor_files.proofs.Plain.{HasBuilt, Plain, all_joined, all_remaining, all_right}
+use Rattle.gixobj_editor_files.specs.Bases.{HasBases}
+use Rattle.gixobj_editor_files.specs.Files.{NamedFiles, Path, Table, Trees}
+use Rattle.gixobj_editor_files.specs.Opening.{Dirs, HasAt, IsOpened}
+use Rattle.gixobj_editor_files.specs.State.{DirMap, State, open_bases, open_dirs, root_alone}
+use Rattle.gixobj_editor_files.specs.Tables.{AgreesWithPairs, AgreesWithStore}
+use Rattle.gixobj_tree_entries.specs.Entries.{EntryView, Pair}
 use Rattle.gixobj_editor.proofs.Keeping.{AgreesThroughout, agrees_throughout_prefix, agrees_throughout_suffix}
 use Rattle.gixobj_editor.proofs.Named.{agrees_with_run_prefix, agrees_later, agrees_with_written_pairs, ensured_keeps, command_keeps, edit_keeps, names_history}
 use Rattle.gixobj_editor.proofs.Reported.{mode_of_kind_not_tree, plain_history_of_prefix, known_by_trees, is_up_to_of_same_files}

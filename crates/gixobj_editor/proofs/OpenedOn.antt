@@ -2,27 +2,27 @@
 use Rattle.std.proofs.Common.{◌≡◌, ◌≢◌, ◌∙◌, ℕ, Bool, List, [], ◌∷◌, ◌++◌, Option, None, Result, Ok, Err, refl, sym, ap, subst}
 use Rattle.std.specs.Prelude.{IfOk, OnErr}
 use Rattle.std.proofs.lemmas.List.Elements.{recursion_from_All}
-use Rattle.gixobj_entries.specs.Entries.{EntryView}
+use Rattle.gixobj_tree_entries.specs.Entries.{EntryView}
 use Rattle.gixobj_tree.specs.WellFormed.{IsEntryName, IsWellFormed}
 use Rattle.gixobj_hash.specs.Hash.{null_id}
 use Rattle.gixobj_hash.specs.declared.hash.kind.Kind.{Kind}
 use Rattle.gixobj_hash.specs.declared.hash.kind.Kind.TheVariants as hash
 use Rattle.gixobj_hash.specs.declared.hash.object_id.ObjectId.{ObjectId}
-use Rattle.gixobj_write.specs.Calls.{AreNames, IsStorable}
-use Rattle.gixobj_open.specs.Nested.{Opened, bases_of, dirs_of, opened}
-use Rattle.gixobj_open.proofs.BaseSteps.{base_none_where_unopened}
-use Rattle.gixobj_open.proofs.Steps.{dirs_of_childless}
-use Rattle.gixobj_files.specs.Bases.{base_edited, edited_bases, opened_bases}
-use Rattle.gixobj_files.specs.Edits.{IsNoTree, Opens, ensured_dirs, only_open, removed_dirs, upserted_dirs, with_path}
-use Rattle.gixobj_files.specs.Files.{Path, Trees}
-use Rattle.gixobj_files.specs.OpeningStops.{StopsOpening}
-use Rattle.gixobj_files.specs.Opening.{Dirs}
-use Rattle.gixobj_files.proofs.Calls.{ensured_null_based, are_null_based_of_none, opened_null_based, removed_null_based, upserted_null_based, written_null_based}
-use Rattle.gixobj_files.proofs.StoppedOpenings.{halts_opens}
-use Rattle.gixobj_files.proofs.StillOpenedOpenings.{is_opened_of_opens}
+use Rattle.gixobj_editor_write.specs.Calls.{AreNames, IsStorable}
+use Rattle.gixobj_editor_open.specs.Nested.{Opened, bases_of, dirs_of, opened}
+use Rattle.gixobj_editor_open.proofs.BaseSteps.{base_none_where_unopened}
+use Rattle.gixobj_editor_open.proofs.Steps.{dirs_of_childless}
+use Rattle.gixobj_editor_files.specs.Bases.{base_edited, edited_bases, opened_bases}
+use Rattle.gixobj_editor_files.specs.Edits.{IsNoTree, Opens, ensured_dirs, only_open, removed_dirs, upserted_dirs, with_path}
+use Rattle.gixobj_editor_files.specs.Files.{Path, Trees}
+use Rattle.gixobj_editor_files.specs.OpeningStops.{StopsOpening}
+use Rattle.gixobj_editor_files.specs.Opening.{Dirs}
+use Rattle.gixobj_editor_files.proofs.Calls.{ensured_null_based, are_null_based_of_none, opened_null_based, removed_null_based, upserted_null_based, written_null_based}
+use Rattle.gixobj_editor_files.proofs.StoppedOpenings.{halts_opens}
+use Rattle.gixobj_editor_files.proofs.StillOpenedOpenings.{is_opened_of_opens}
 use Rattle.gixobj_store.specs.Stores.{Objects}
-use Rattle.gixobj_directories.specs.FailedOpenings.{OpensInPart}
-use Rattle.gixobj_directories.specs.declared.error.Error.{Error}
+use Rattle.gixobj_editor_lookups.specs.FailedOpenings.{OpensInPart}
+use Rattle.gixobj_editor_lookups.specs.declared.error.Error.{Error}
 use Rattle.gixobj_editor.proofs.EnsuredAt.{is_opened_after_ensured}
 use Rattle.gixobj_editor.proofs.Edited.{EditedSo, OpenedOn, OpenedSo, is_opened_after_upsert}
 use Rattle.gixobj_editor.proofs.RemovedAt.{is_opened_after_removal}

@@ -5,38 +5,38 @@ use Rattle.std.specs.FinMap as map
 use Rattle.std.specs.Prelude.{IsFalse}
 use Rattle.std.specs.List.{AllByRecursion}
 use Rattle.std.proofs.lemmas.List.Elements.{recursion_from_All}
-use Rattle.gixobj_write.specs.Calls.{IsStorable}
-use Rattle.gixobj_write.specs.declared.write.Written.{Written}
+use Rattle.gixobj_editor_write.specs.Calls.{IsStorable}
+use Rattle.gixobj_editor_write.specs.declared.write.Written.{Written}
 use Rattle.gixobj_editor.specs.Cursors.{IsEnsured, IsWrittenBelow}
 use Rattle.gixobj_editor.specs.Removals.{IsRemovedUpTo}
-use Rattle.gixobj_directories.specs.EditNames.{directory_of}
+use Rattle.gixobj_editor_lookups.specs.EditNames.{directory_of}
 use Rattle.gixobj_editor.specs.Upserts.{IsUpserted}
 use Rattle.gixobj_editor.specs.FailedEdits.{IsAfterFailedEdit}
 use Rattle.gixobj_editor.specs.Writes.{IsWrittenEditor}
-use Rattle.gixobj_files.proofs.EnsuredFiles.{is_open_along_of_opens}
-use Rattle.gixobj_files.proofs.Canonical.{IsClean}
-use Rattle.gixobj_files.proofs.EditedFiles.{root_alone_at_root, root_alone_below_root}
-use Rattle.gixobj_files.proofs.LastingProperties.{everywhere_in_path}
-use Rattle.gixobj_files.proofs.Everywhere.{Everywhere, everywhere_ensured, everywhere_opened, everywhere_removed, everywhere_upserted, everywhere_written}
-use Rattle.gixobj_files.proofs.OpeningFiles.{opens_makes_ready}
-use Rattle.gixobj_files.proofs.Plain.{IsEmitted, HasBuilt, Plain, all_joined, all_remaining, all_right, is_built_of_rests_on, is_plain_of_rests_on, emits_below_plain, plain_lasts}
-use Rattle.gixobj_files.proofs.StillOpenedOpenings.{is_opened_of_only, is_opened_of_opens}
-use Rattle.gixobj_files.proofs.UpsertedFiles.{IsReady}
-use Rattle.gixobj_files.specs.Bases.{edited_bases, opened_bases}
-use Rattle.gixobj_files.specs.Edits.{IsNoTree, Opens, ensured_dirs, only_open, removed_dirs, upserted_dirs, with_path}
-use Rattle.gixobj_files.specs.Files.{ContainsEntry, Path, Table, Trees, is_null}
-use Rattle.gixobj_files.specs.Emission.{EmitsBelow, of_entries}
-use Rattle.gixobj_files.specs.Opening.{Dirs, IsOpened, in_path}
-use Rattle.gixobj_files.specs.State.{DirMap, State, open_bases, open_dirs, root_alone}
-use Rattle.gixobj_files.specs.Tables.{AgreesWithPairs, AgreesWithStore}
+use Rattle.gixobj_editor_files.proofs.EnsuredFiles.{is_open_along_of_opens}
+use Rattle.gixobj_editor_files.proofs.Canonical.{IsClean}
+use Rattle.gixobj_editor_files.proofs.EditedFiles.{root_alone_at_root, root_alone_below_root}
+use Rattle.gixobj_editor_files.proofs.LastingProperties.{everywhere_in_path}
+use Rattle.gixobj_editor_files.proofs.Everywhere.{Everywhere, everywhere_ensured, everywhere_opened, everywhere_removed, everywhere_upserted, everywhere_written}
+use Rattle.gixobj_editor_files.proofs.OpeningFiles.{opens_makes_ready}
+use Rattle.gixobj_editor_files.proofs.Plain.{IsEmitted, HasBuilt, Plain, all_joined, all_remaining, all_right, is_built_of_rests_on, is_plain_of_rests_on, emits_below_plain, plain_lasts}
+use Rattle.gixobj_editor_files.proofs.StillOpenedOpenings.{is_opened_of_only, is_opened_of_opens}
+use Rattle.gixobj_editor_files.proofs.UpsertedFiles.{IsReady}
+use Rattle.gixobj_editor_files.specs.Bases.{edited_bases, opened_bases}
+use Rattle.gixobj_editor_files.specs.Edits.{IsNoTree, Opens, ensured_dirs, only_open, removed_dirs, upserted_dirs, with_path}
+use Rattle.gixobj_editor_files.specs.Files.{ContainsEntry, Path, Table, Trees, is_null}
+use Rattle.gixobj_editor_files.specs.Emission.{EmitsBelow, of_entries}
+use Rattle.gixobj_editor_files.specs.Opening.{Dirs, IsOpened, in_path}
+use Rattle.gixobj_editor_files.specs.State.{DirMap, State, open_bases, open_dirs, root_alone}
+use Rattle.gixobj_editor_files.specs.Tables.{AgreesWithPairs, AgreesWithStore}
 use Rattle.gixobj_hash.specs.Hash.{null_id}
 use Rattle.gixobj_hash.specs.declared.hash.object_id.ObjectId.{ObjectId}
 use Rattle.gixobj_store.specs.Stores.{StoreModel}
-use Rattle.gixobj_directories.specs.declared.error.Error.{Error}
-use Rattle.gixobj_entries.specs.Entries.{EntryView, Pair}
-use Rattle.gixobj_entries.specs.Mode.{is_tree_mode}
-use Rattle.gixobj_directories.proofs.Paths.{directory_of_snoc}
-use Rattle.gixobj_directories.proofs.Removing.{path_nil_or_snoc}
+use Rattle.gixobj_editor_lookups.specs.declared.error.Error.{Error}
+use Rattle.gixobj_tree_entries.specs.Entries.{EntryView, Pair}
+use Rattle.gixobj_tree_entries.specs.Mode.{is_tree_mode}
+use Rattle.gixobj_editor_lookups.proofs.Paths.{directory_of_snoc}
+use Rattle.gixobj_editor_lookups.proofs.Removing.{path_nil_or_snoc}
 
 abbrev no_trees : Trees
 no_trees = λ id. None

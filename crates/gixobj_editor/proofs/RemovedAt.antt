@@ -1,39 +1,39 @@
 -- The record of a removal follows from its effect on the open directories; the proofs of `try_remove` and
 -- `try_remove_leaf` use it.
 use Rattle.std.proofs.Common.{◌≡◌, ◌∙◌, inl, inr, ℕ, List, [], ◌∷◌, ◌++◌, Some, refl, sym, ap, subst, length, arith}
-use Rattle.gixobj_entries.specs.Entries.{EntryView}
+use Rattle.gixobj_tree_entries.specs.Entries.{EntryView}
 use Rattle.gixobj_hash.specs.declared.hash.kind.Kind.{Kind}
 use Rattle.gixobj_hash.specs.declared.hash.object_id.ObjectId.{ObjectId}
-use Rattle.gixobj_open.specs.Nested.{Opened, dirs_of}
-use Rattle.gixobj_files.specs.Edits.{IsNotLookedUp, Opens, arrived, counted, down, entry_at, found, removed_dirs, stops, raised}
-use Rattle.gixobj_files.specs.Files.{Path, Removed, SameFiles, Table, Trees}
-use Rattle.gixobj_files.specs.OpeningStops.{IsUnopenedAbove}
-use Rattle.gixobj_files.specs.Opening.{Dirs, IsOpened, OpenFiles}
-use Rattle.gixobj_files.specs.State.{State, open_dirs}
-use Rattle.gixobj_files.specs.Unopened.{looked_up_entry, unopened_count}
-use Rattle.gixobj_files.proofs.ReachedDirectories.{opens_reached, known_after}
-use Rattle.gixobj_files.proofs.EditedFiles.{removed_congruent, same_files_trans}
-use Rattle.gixobj_files.proofs.OpeningFiles.{opens_keeps_files}
-use Rattle.gixobj_files.proofs.RemovedFiles.{IsReached, removed_dirs_files}
-use Rattle.gixobj_files.proofs.StillOpenedOpenings.{is_opened_of_opens}
-use Rattle.gixobj_files.proofs.StillOpenedRemovals.{is_opened_removed}
-use Rattle.gixobj_files.proofs.UnopenedCounts.{IsIdle, requested_count}
-use Rattle.gixobj_directories.specs.EditNames.{directory_of}
-use Rattle.gixobj_directories.specs.FailedOpenings.{IsLookupError}
+use Rattle.gixobj_editor_open.specs.Nested.{Opened, dirs_of}
+use Rattle.gixobj_editor_files.specs.Edits.{IsNotLookedUp, Opens, arrived, counted, down, entry_at, found, removed_dirs, stops, raised}
+use Rattle.gixobj_editor_files.specs.Files.{Path, Removed, SameFiles, Table, Trees}
+use Rattle.gixobj_editor_files.specs.OpeningStops.{IsUnopenedAbove}
+use Rattle.gixobj_editor_files.specs.Opening.{Dirs, IsOpened, OpenFiles}
+use Rattle.gixobj_editor_files.specs.State.{State, open_dirs}
+use Rattle.gixobj_editor_files.specs.Unopened.{looked_up_entry, unopened_count}
+use Rattle.gixobj_editor_files.proofs.ReachedDirectories.{opens_reached, known_after}
+use Rattle.gixobj_editor_files.proofs.EditedFiles.{removed_congruent, same_files_trans}
+use Rattle.gixobj_editor_files.proofs.OpeningFiles.{opens_keeps_files}
+use Rattle.gixobj_editor_files.proofs.RemovedFiles.{IsReached, removed_dirs_files}
+use Rattle.gixobj_editor_files.proofs.StillOpenedOpenings.{is_opened_of_opens}
+use Rattle.gixobj_editor_files.proofs.StillOpenedRemovals.{is_opened_removed}
+use Rattle.gixobj_editor_files.proofs.UnopenedCounts.{IsIdle, requested_count}
+use Rattle.gixobj_editor_lookups.specs.EditNames.{directory_of}
+use Rattle.gixobj_editor_lookups.specs.FailedOpenings.{IsLookupError}
 use Rattle.gixobj_editor.specs.FailedEdits.{IsAfterFailedEdit}
-use Rattle.gixobj_directories.specs.declared.error.Error.{Error}
-use Rattle.gixobj_directories.specs.declared.error.Error.TheVariants as error
+use Rattle.gixobj_editor_lookups.specs.declared.error.Error.{Error}
+use Rattle.gixobj_editor_lookups.specs.declared.error.Error.TheVariants as error
 use Rattle.gixobj_store.specs.Stores.{StoreModel}
-use Rattle.gixobj_directories.specs.RemovalErrors.{IsLeafDirectoryError}
+use Rattle.gixobj_editor_lookups.specs.RemovalErrors.{IsLeafDirectoryError}
 use Rattle.gixobj_editor.specs.Removals.{IsRemovedUpTo}
 use Rattle.gixobj_editor.proofs.Edited.{EditedSo, OpenedOn, OpenedSo, map_is_opened, edited_bases_of_map, tree_known_above, map_bases, map_dirs, no_error_above, map_is_opened_on, map_dirs_eq, state_of, stay_at}
-use Rattle.gixobj_directories.proofs.OpeningSteps.{ends_before_is_idle}
-use Rattle.gixobj_directories.specs.Openings.{EndsBefore}
-use Rattle.gixobj_directories.specs.declared.opening.NotLookedUp.{NotLookedUp}
-use Rattle.gixobj_files.proofs.Calls.{removed_based}
-use Rattle.gixobj_directories.proofs.InPart.{prefix_in_part}
-use Rattle.gixobj_directories.proofs.Paths.{directory_is_prefix, directory_of_snoc}
-use Rattle.gixobj_directories.proofs.Removing.{IsOpenedFor, path_nil_or_snoc}
+use Rattle.gixobj_editor_lookups.proofs.OpeningSteps.{ends_before_is_idle}
+use Rattle.gixobj_editor_lookups.specs.Openings.{EndsBefore}
+use Rattle.gixobj_editor_lookups.specs.declared.opening.NotLookedUp.{NotLookedUp}
+use Rattle.gixobj_editor_files.proofs.Calls.{removed_based}
+use Rattle.gixobj_editor_lookups.proofs.InPart.{prefix_in_part}
+use Rattle.gixobj_editor_lookups.proofs.Paths.{directory_is_prefix, directory_of_snoc}
+use Rattle.gixobj_editor_lookups.proofs.Removing.{IsOpenedFor, path_nil_or_snoc}
 
 no_queries_of_nil_path : {StopsBefore : EntryView → Type 0} (trees : Trees) (p : Path) → p ≡ [] → (old new : Dirs) (queries : List ObjectId)
     → Opens StopsBefore trees p old new queries → length queries ≡ 0

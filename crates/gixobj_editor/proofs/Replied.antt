@@ -5,24 +5,24 @@ use Rattle.std.specs.Prelude.{IfErr, OnOk}
 use Rattle.std.specs.declared.alloc.Global.{Global}
 use Rattle.std.specs.declared.vec.Vec.{Vec}
 use Rattle.bstr.specs.declared.bstring.BString.{BString}
-use Rattle.gixobj_directories.specs.Openings.{OfTrees}
-use Rattle.gixobj_commands.specs.declared.command.Edit.{Edit}
-use Rattle.gixobj_commands.specs.declared.command.Edit.TheVariants as edit
-use Rattle.gixobj_open.specs.Paths.{names_of}
+use Rattle.gixobj_editor_lookups.specs.Openings.{OfTrees}
+use Rattle.gixobj_editor_commands.specs.declared.command.Edit.{Edit}
+use Rattle.gixobj_editor_commands.specs.declared.command.Edit.TheVariants as edit
+use Rattle.gixobj_editor_open.specs.Paths.{names_of}
 use Rattle.gixobj_editor.specs.Cursors.{IsEnsured}
 use Rattle.gixobj_editor.specs.Removals.{IsLeafRemoved, IsRemoved, IsLeafRemovalError, IsRemovalError}
 use Rattle.gixobj_editor.specs.Upserts.{IsNameError, IsUpserted, IsUpsertError}
 use Rattle.gixobj_editor.specs.FailedEdits.{IsAfterFailedEdit}
-use Rattle.gixobj_directories.specs.declared.error.Error.{Error}
-use Rattle.gixobj_files.specs.Files.{Files, Path, SameFiles, Table, Trees}
-use Rattle.gixobj_files.specs.Bases.{HasBases}
+use Rattle.gixobj_editor_lookups.specs.declared.error.Error.{Error}
+use Rattle.gixobj_editor_files.specs.Files.{Files, Path, SameFiles, Table, Trees}
+use Rattle.gixobj_editor_files.specs.Bases.{HasBases}
 use Rattle.gixobj_store.specs.Stores.{StoreModel}
-use Rattle.gixobj_entries.specs.Entries.{EntryView}
+use Rattle.gixobj_tree_entries.specs.Entries.{EntryView}
 use Rattle.gixobj_tree.specs.WellFormed.{IsWellFormed}
-use Rattle.gixobj_files.specs.State.{EditorFiles, State, open_bases, open_dirs, root_alone}
+use Rattle.gixobj_editor_files.specs.State.{EditorFiles, State, open_bases, open_dirs, root_alone}
 use Rattle.gixobj_hash.specs.declared.hash.object_id.ObjectId.{ObjectId}
-use Rattle.gixobj_entries.specs.Mode.{mode_of_kind}
-use Rattle.gixobj_entries.specs.declared.entry_kind.EntryKind.{EntryKind}
+use Rattle.gixobj_tree_entries.specs.Mode.{mode_of_kind}
+use Rattle.gixobj_tree_entries.specs.declared.entry_kind.EntryKind.{EntryKind}
 use Rattle.gixobj_editor.specs.Commands.{Location, at_cursor, path_at}
 use Rattle.gixobj_editor.specs.Replies.{Answers, AreEditReplies, IsEditReply, IsFailedEdit, IsReplyAt, IsRootSet, IsEditErrorAt, reply_to}
 use Rattle.gixobj_editor.specs.declared.reply.EditReply.{EditReply}

@@ -5,28 +5,28 @@ use Rattle.std.specs.FinMap as map
 use Rattle.std.specs.List.{AllByRecursion}
 use Rattle.std.specs.Prelude.{MatchOption}
 use Rattle.std.proofs.lemmas.List.Elements.{All-contains, All-from_recursion, recursion_from_All}
-use Rattle.gixobj_commands.specs.declared.command.Command.{Command}
-use Rattle.gixobj_commands.specs.declared.command.Command.TheVariants as command
-use Rattle.gixobj_commands.specs.declared.command.Edit.{Edit}
-use Rattle.gixobj_commands.specs.declared.command.Edit.TheVariants as edit
-use Rattle.gixobj_open.specs.Paths.{names_of}
+use Rattle.gixobj_editor_commands.specs.declared.command.Command.{Command}
+use Rattle.gixobj_editor_commands.specs.declared.command.Command.TheVariants as command
+use Rattle.gixobj_editor_commands.specs.declared.command.Edit.{Edit}
+use Rattle.gixobj_editor_commands.specs.declared.command.Edit.TheVariants as edit
+use Rattle.gixobj_editor_open.specs.Paths.{names_of}
 use Rattle.gixobj_editor.specs.Cursors.{cursor_path}
-use Rattle.gixobj_files.proofs.Canonical.{IsBuilt, same_trees}
-use Rattle.gixobj_files.proofs.EditedFiles.{root_alone_files, same_files_refl}
-use Rattle.gixobj_files.proofs.OpenedFiles.{no_open_files_of_no_entries}
-use Rattle.gixobj_files.proofs.Plain.{HasBuilt}
-use Rattle.gixobj_files.proofs.PlainHistories.{IsUpTo, steps_plain}
-use Rattle.gixobj_files.specs.Files.{FileSet, Files, NamedFiles, SameFiles, Table}
-use Rattle.gixobj_files.specs.History.{FilesAfter, Step}
-use Rattle.gixobj_files.specs.Opening.{OpenFiles}
-use Rattle.gixobj_files.specs.PlainHistory.{HasNoTree, NoFiles}
-use Rattle.gixobj_files.specs.State.{DirMap, EditorFiles, State, root_alone}
-use Rattle.gixobj_files.specs.Tables.{AgreesWithPairs, HasOneIdPerTree}
+use Rattle.gixobj_editor_files.proofs.Canonical.{IsBuilt, same_trees}
+use Rattle.gixobj_editor_files.proofs.EditedFiles.{root_alone_files, same_files_refl}
+use Rattle.gixobj_editor_files.proofs.OpenedFiles.{no_open_files_of_no_entries}
+use Rattle.gixobj_editor_files.proofs.Plain.{HasBuilt}
+use Rattle.gixobj_editor_files.proofs.PlainHistories.{IsUpTo, steps_plain}
+use Rattle.gixobj_editor_files.specs.Files.{FileSet, Files, NamedFiles, SameFiles, Table}
+use Rattle.gixobj_editor_files.specs.History.{FilesAfter, Step}
+use Rattle.gixobj_editor_files.specs.Opening.{OpenFiles}
+use Rattle.gixobj_editor_files.specs.PlainHistory.{HasNoTree, NoFiles}
+use Rattle.gixobj_editor_files.specs.State.{DirMap, EditorFiles, State, root_alone}
+use Rattle.gixobj_editor_files.specs.Tables.{AgreesWithPairs, HasOneIdPerTree}
 use Rattle.gixobj_hash.specs.declared.hash.object_id.ObjectId.{ObjectId}
-use Rattle.gixobj_entries.specs.Entries.{EntryView, Pair}
-use Rattle.gixobj_entries.specs.Mode.{is_tree_mode, mode_of_kind}
-use Rattle.gixobj_entries.specs.declared.entry_kind.EntryKind.{EntryKind}
-use Rattle.gixobj_entries.specs.declared.entry_kind.EntryKind.TheVariants as kind
+use Rattle.gixobj_tree_entries.specs.Entries.{EntryView, Pair}
+use Rattle.gixobj_tree_entries.specs.Mode.{is_tree_mode, mode_of_kind}
+use Rattle.gixobj_tree_entries.specs.declared.entry_kind.EntryKind.{EntryKind}
+use Rattle.gixobj_tree_entries.specs.declared.entry_kind.EntryKind.TheVariants as kind
 use Rattle.gixobj_editor.specs.Commands.{Location, accepted_steps, at_cursor, at_root, steps_of, steps_of_edit, steps_of_edits}
 use Rattle.gixobj_editor.specs.PlainRuns.{NamesNoTree, InsertsNoTree, files_before}
 use Rattle.gixobj_editor.specs.declared.reply.EditReply.{EditReply}

@@ -1,16 +1,16 @@
 -- An editor whose root alone is open.
 use Rattle.std.proofs.Common.{◌≡◌, ℕ, List, [], sym, subst}
-use Rattle.gixobj_entries.specs.Entries.{EntryView}
+use Rattle.gixobj_tree_entries.specs.Entries.{EntryView}
 use Rattle.gixobj_tree.specs.WellFormed.{IsWellFormed}
-use Rattle.gixobj_open.specs.Nested.{Opened, dirs_of, opened}
-use Rattle.gixobj_open.proofs.Steps.{dirs_of_childless}
-use Rattle.gixobj_files.specs.Files.{Files, SameFiles, Table}
-use Rattle.gixobj_files.specs.Opening.{Dirs, IsOpened, OpenFiles}
-use Rattle.gixobj_files.proofs.EditedFiles.{root_alone_files}
-use Rattle.gixobj_files.proofs.StillOpenedOpenings.{is_opened_of_only}
+use Rattle.gixobj_editor_open.specs.Nested.{Opened, dirs_of, opened}
+use Rattle.gixobj_editor_open.proofs.Steps.{dirs_of_childless}
+use Rattle.gixobj_editor_files.specs.Files.{Files, SameFiles, Table}
+use Rattle.gixobj_editor_files.specs.Opening.{Dirs, IsOpened, OpenFiles}
+use Rattle.gixobj_editor_files.proofs.EditedFiles.{root_alone_files}
+use Rattle.gixobj_editor_files.proofs.StillOpenedOpenings.{is_opened_of_only}
 use Rattle.gixobj_editor.proofs.Edited.{map_bases, map_dirs}
-use Rattle.gixobj_files.specs.Bases.{HasBases}
-use Rattle.gixobj_files.proofs.Calls.{root_alone_has_bases}
+use Rattle.gixobj_editor_files.specs.Bases.{HasBases}
+use Rattle.gixobj_editor_files.proofs.Calls.{root_alone_has_bases}
 
 pub root_alone_is_opened : (ds : Opened) (root : List EntryView) → ds ≡ opened root [] [] → IsWellFormed root → IsOpened (dirs_of ds)
 root_alone_is_opened ds root is formed = subst (λ (d : Opened). IsOpened (dirs_of d)) (sym is)

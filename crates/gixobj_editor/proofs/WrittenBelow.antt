@@ -4,24 +4,24 @@ use Rattle.std.proofs.Common.{All, ◌≡◌, ◌≢◌, ◌∙◌, ℕ, List, [
 use Rattle.std.specs.Prelude.{IfOk, OnErr}
 use Rattle.std.specs.List.{FoldsTo}
 use Rattle.std.proofs.lemmas.List.Elements.{All-from_recursion}
-use Rattle.gixobj_write.specs.Calls.{IsStorable}
-use Rattle.gixobj_open.specs.Nested.{Opened, bases_of, dirs_of}
-use Rattle.gixobj_write.proofs.StorablePairs.{emits_below_storable}
-use Rattle.gixobj_files.specs.Edits.{only_open, with_path}
-use Rattle.gixobj_files.specs.Files.{Path, SameFiles}
-use Rattle.gixobj_files.specs.Emission.{EmitsBelow, Saves}
-use Rattle.gixobj_files.specs.Opening.{Dirs, IsOpened, OpenFiles, in_path}
-use Rattle.gixobj_files.specs.State.{State, open_dirs}
-use Rattle.gixobj_files.specs.Tables.{AgreesWithPairs}
-use Rattle.gixobj_files.proofs.BelowPrefix.{with_path_at_prefix, is_opened_with_only}
-use Rattle.gixobj_files.proofs.CursorFiles.{written_id_files_below_prefix, write_keeps_files}
+use Rattle.gixobj_editor_write.specs.Calls.{IsStorable}
+use Rattle.gixobj_editor_open.specs.Nested.{Opened, bases_of, dirs_of}
+use Rattle.gixobj_editor_write.proofs.StorablePairs.{emits_below_storable}
+use Rattle.gixobj_editor_files.specs.Edits.{only_open, with_path}
+use Rattle.gixobj_editor_files.specs.Files.{Path, SameFiles}
+use Rattle.gixobj_editor_files.specs.Emission.{EmitsBelow, Saves}
+use Rattle.gixobj_editor_files.specs.Opening.{Dirs, IsOpened, OpenFiles, in_path}
+use Rattle.gixobj_editor_files.specs.State.{State, open_dirs}
+use Rattle.gixobj_editor_files.specs.Tables.{AgreesWithPairs}
+use Rattle.gixobj_editor_files.proofs.BelowPrefix.{with_path_at_prefix, is_opened_with_only}
+use Rattle.gixobj_editor_files.proofs.CursorFiles.{written_id_files_below_prefix, write_keeps_files}
 use Rattle.gixobj_hash.specs.declared.hash.kind.Kind.{Kind}
-use Rattle.gixobj_entries.specs.Entries.{EntryView, Pair}
-use Rattle.gixobj_write.specs.declared.write.Written.{Written}
+use Rattle.gixobj_tree_entries.specs.Entries.{EntryView, Pair}
+use Rattle.gixobj_editor_write.specs.declared.write.Written.{Written}
 use Rattle.gixobj_editor.specs.Cursors.{IsWrittenBelow}
 use Rattle.gixobj_editor.proofs.Edited.{EditedSo, OpenedOn, map_is_opened, map_bases, map_dirs, map_is_opened_on, only_edited_bases_of_map, map_bases_eq, map_dirs_eq, state_of}
-use Rattle.gixobj_files.proofs.Based.{everywhere_based}
-use Rattle.gixobj_files.proofs.Calls.{written_based}
+use Rattle.gixobj_editor_files.proofs.Based.{everywhere_based}
+use Rattle.gixobj_editor_files.proofs.Calls.{written_based}
 use Rattle.gixobj_editor.proofs.WrittenOut.{all_storable_snoc}
 
 -- the directory at the prefix is open among the owned ones too

@@ -3,26 +3,26 @@ use Rattle.std.proofs.Common.{All, ◌≡◌, ◌∙◌, ℕ, List, [], ◌∷�
 use Rattle.std.specs.Prelude.{MatchOption}
 use Rattle.std.specs.List.{AllByRecursion, FoldsTo}
 use Rattle.std.proofs.lemmas.List.Elements.{All-from_recursion, recursion_from_All}
-use Rattle.gixobj_entries.specs.Entries.{EntryView, Pair}
+use Rattle.gixobj_tree_entries.specs.Entries.{EntryView, Pair}
 use Rattle.gixobj_hash.specs.declared.hash.kind.Kind.{Kind}
-use Rattle.gixobj_files.specs.Files.{Files, Path, SameFiles, Table}
-use Rattle.gixobj_files.specs.Emission.{EmitsBelow, Saves}
-use Rattle.gixobj_files.specs.Opening.{Dirs, OpenFiles}
-use Rattle.gixobj_files.specs.State.{State}
-use Rattle.gixobj_files.specs.Tables.{AgreesWithPairs}
-use Rattle.gixobj_files.proofs.EditedFiles.{root_alone_files, same_files_trans}
-use Rattle.gixobj_files.proofs.WrittenFiles.{known_append_left, known_append_right, emits_below_files, are_trees_of_opened}
-use Rattle.gixobj_write.specs.Calls.{IsStorable}
-use Rattle.gixobj_open.specs.Nested.{Opened, bases_of, dirs_of, opened}
-use Rattle.gixobj_open.proofs.Steps.{dirs_of_childless}
-use Rattle.gixobj_write.proofs.StorablePairs.{emits_below_storable}
-use Rattle.gixobj_write.specs.declared.write.Written.{Written}
+use Rattle.gixobj_editor_files.specs.Files.{Files, Path, SameFiles, Table}
+use Rattle.gixobj_editor_files.specs.Emission.{EmitsBelow, Saves}
+use Rattle.gixobj_editor_files.specs.Opening.{Dirs, OpenFiles}
+use Rattle.gixobj_editor_files.specs.State.{State}
+use Rattle.gixobj_editor_files.specs.Tables.{AgreesWithPairs}
+use Rattle.gixobj_editor_files.proofs.EditedFiles.{root_alone_files, same_files_trans}
+use Rattle.gixobj_editor_files.proofs.WrittenFiles.{known_append_left, known_append_right, emits_below_files, are_trees_of_opened}
+use Rattle.gixobj_editor_write.specs.Calls.{IsStorable}
+use Rattle.gixobj_editor_open.specs.Nested.{Opened, bases_of, dirs_of, opened}
+use Rattle.gixobj_editor_open.proofs.Steps.{dirs_of_childless}
+use Rattle.gixobj_editor_write.proofs.StorablePairs.{emits_below_storable}
+use Rattle.gixobj_editor_write.specs.declared.write.Written.{Written}
 use Rattle.gixobj_editor.specs.Writes.{IsWrittenEditor}
 use Rattle.gixobj_editor.proofs.Edited.{EditedSo, OpenedOn, map_dirs_at, map_bases, map_dirs, map_is_opened_on, only_edited_bases_of_map, map_bases_eq, map_dirs_eq, state_of}
-use Rattle.gixobj_files.specs.Bases.{HasBases, base_edited}
-use Rattle.gixobj_files.specs.Edits.{only_open}
-use Rattle.gixobj_files.proofs.Based.{everywhere_based}
-use Rattle.gixobj_files.proofs.Calls.{has_bases_of_none}
+use Rattle.gixobj_editor_files.specs.Bases.{HasBases, base_edited}
+use Rattle.gixobj_editor_files.specs.Edits.{only_open}
+use Rattle.gixobj_editor_files.proofs.Based.{everywhere_based}
+use Rattle.gixobj_editor_files.proofs.Calls.{has_bases_of_none}
 
 -- each pair may be emitted
 pub all_storable_snoc : (head : List Pair) (pair : Pair) → AllByRecursion (λ p. IsStorable p.1) head → IsStorable pair.1

@@ -1,20 +1,20 @@
 -- The causes in replies to writes whose trees aren't all kept: each is an error of the store at that reply.
 use Rattle.std.specs.Prelude.{◌≡◌, List, [], ◌∷◌, ⊤}
-use Rattle.gixobj_open.specs.Paths.{names_of}
-use Rattle.gixobj_directories.specs.Openings.{OfTrees}
+use Rattle.gixobj_editor_open.specs.Paths.{names_of}
+use Rattle.gixobj_editor_lookups.specs.Openings.{OfTrees}
 use Rattle.gixobj_editor.specs.Commands.{Location, at_cursor}
 use Rattle.gixobj_editor.specs.Cursors.{IsEnsured, cursor_path}
 use Rattle.gixobj_editor.specs.Replies.{Answers, IsEditReply, IsReply}
-use Rattle.gixobj_commands.specs.declared.command.Command.{Command}
-use Rattle.gixobj_commands.specs.declared.command.Command.TheVariants as command
-use Rattle.gixobj_commands.specs.declared.command.Edit.{Edit}
+use Rattle.gixobj_editor_commands.specs.declared.command.Command.{Command}
+use Rattle.gixobj_editor_commands.specs.declared.command.Command.TheVariants as command
+use Rattle.gixobj_editor_commands.specs.declared.command.Edit.{Edit}
 use Rattle.gixobj_editor.specs.declared.reply.EditReply.{EditReply}
 use Rattle.gixobj_editor.specs.declared.reply.EditReply.TheVariants as edit_reply
 use Rattle.gixobj_editor.specs.declared.reply.Reply.{Reply}
 use Rattle.gixobj_editor.specs.declared.reply.Reply.TheVariants as reply
-use Rattle.gixobj_files.specs.Files.{Path}
-use Rattle.gixobj_files.specs.State.{State}
-use Rattle.gixobj_keep.specs.Keeping.{IsStoreErrorAt, KeepErrors}
+use Rattle.gixobj_editor_files.specs.Files.{Path}
+use Rattle.gixobj_editor_files.specs.State.{State}
+use Rattle.gixobj_store_keep.specs.Keeping.{IsStoreErrorAt, KeepErrors}
 use Rattle.gixobj_store.specs.Stores.{Objects, StoreModel}
 
 -- the cause in a reply to a write whose trees aren't all kept: an error of the store, as it was before the write, for

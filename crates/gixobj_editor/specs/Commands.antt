@@ -1,18 +1,18 @@
 -- The steps of the accepted commands of a run, and the trees that its writes emit.
 use Rattle.std.specs.Prelude.{ℕ, zero, suc, List, [], ◌∷◌, ◌++◌, Option, Some, None, take}
 use Rattle.std.specs.List.{flat_map}
-use Rattle.gixobj_commands.specs.declared.command.Command.{Command}
-use Rattle.gixobj_commands.specs.declared.command.Command.TheVariants as command
-use Rattle.gixobj_commands.specs.declared.command.Edit.{Edit}
-use Rattle.gixobj_commands.specs.declared.command.Edit.TheVariants as edit
-use Rattle.gixobj_open.specs.Paths.{names_of}
-use Rattle.gixobj_write.specs.declared.write.Written.{Written}
-use Rattle.gixobj_directories.specs.EditNames.{from_root}
+use Rattle.gixobj_editor_commands.specs.declared.command.Command.{Command}
+use Rattle.gixobj_editor_commands.specs.declared.command.Command.TheVariants as command
+use Rattle.gixobj_editor_commands.specs.declared.command.Edit.{Edit}
+use Rattle.gixobj_editor_commands.specs.declared.command.Edit.TheVariants as edit
+use Rattle.gixobj_editor_open.specs.Paths.{names_of}
+use Rattle.gixobj_editor_write.specs.declared.write.Written.{Written}
+use Rattle.gixobj_editor_lookups.specs.EditNames.{from_root}
 use Rattle.gixobj_editor.specs.Cursors.{cursor_path}
-use Rattle.gixobj_files.specs.Files.{Path}
-use Rattle.gixobj_files.specs.History.{Step, ensure, remove, set_root, upsert}
-use Rattle.gixobj_entries.specs.Entries.{Pair}
-use Rattle.gixobj_entries.specs.Mode.{mode_of_kind}
+use Rattle.gixobj_editor_files.specs.Files.{Path}
+use Rattle.gixobj_editor_files.specs.History.{Step, ensure, remove, set_root, upsert}
+use Rattle.gixobj_tree_entries.specs.Entries.{Pair}
+use Rattle.gixobj_tree_entries.specs.Mode.{mode_of_kind}
 use Rattle.gixobj_editor.specs.declared.reply.EditReply.{EditReply}
 use Rattle.gixobj_editor.specs.declared.reply.EditReply.TheVariants as edit_reply
 use Rattle.gixobj_editor.specs.declared.reply.Reply.{Reply}

@@ -2,30 +2,30 @@
 pub mod Stores
 use Rattle.std.specs.Prelude.{◌≡◌, ◌≢◌, ◌⊎◌, ◌++◌, ℕ, Bool, List, [], ◌∷◌, All, Some}
 use Rattle.std.specs.List.{FoldsTo}
-use Rattle.gixobj_directories.specs.Openings.{OfTrees}
+use Rattle.gixobj_editor_lookups.specs.Openings.{OfTrees}
 use Rattle.gixobj_store.specs.Stores.{StoreModel, Objects}
-use Rattle.gixobj_write.specs.Calls.{AreNames, IsStorable}
-use Rattle.gixobj_directories.specs.declared.opening.Error.TheVariants as opening
-use Rattle.gixobj_write.specs.declared.write.Written.{Written}
-use Rattle.gixobj_files.specs.Bases.{HasBases, edited_bases, opened_bases}
-use Rattle.gixobj_files.specs.Edits.{IsNoTree, Opens, ensured_dirs, only_open, with_path, raised}
-use Rattle.gixobj_files.specs.Files.{Ensured, NamedFiles, Path, SameFiles, Table, Trees}
-use Rattle.gixobj_files.specs.OpeningStops.{IsUnopenedAbove}
-use Rattle.gixobj_files.specs.Emission.{Emits}
-use Rattle.gixobj_files.specs.Opening.{Dirs, IsOpened, in_path}
-use Rattle.gixobj_files.specs.State.{EditorFiles, FilesBelow, State, open_bases, open_dirs}
-use Rattle.gixobj_files.specs.Tables.{AgreesWithPairs, AgreesWithStore}
-use Rattle.gixobj_files.specs.Unopened.{with_empty_name, unopened_count}
+use Rattle.gixobj_editor_write.specs.Calls.{AreNames, IsStorable}
+use Rattle.gixobj_editor_lookups.specs.declared.opening.Error.TheVariants as opening
+use Rattle.gixobj_editor_write.specs.declared.write.Written.{Written}
+use Rattle.gixobj_editor_files.specs.Bases.{HasBases, edited_bases, opened_bases}
+use Rattle.gixobj_editor_files.specs.Edits.{IsNoTree, Opens, ensured_dirs, only_open, with_path, raised}
+use Rattle.gixobj_editor_files.specs.Files.{Ensured, NamedFiles, Path, SameFiles, Table, Trees}
+use Rattle.gixobj_editor_files.specs.OpeningStops.{IsUnopenedAbove}
+use Rattle.gixobj_editor_files.specs.Emission.{Emits}
+use Rattle.gixobj_editor_files.specs.Opening.{Dirs, IsOpened, in_path}
+use Rattle.gixobj_editor_files.specs.State.{EditorFiles, FilesBelow, State, open_bases, open_dirs}
+use Rattle.gixobj_editor_files.specs.Tables.{AgreesWithPairs, AgreesWithStore}
+use Rattle.gixobj_editor_files.specs.Unopened.{with_empty_name, unopened_count}
 use Rattle.gixobj_hash.specs.Hash.{null_id}
 use Rattle.gixobj_hash.specs.declared.hash.object_id.ObjectId.{ObjectId}
-use Rattle.gixobj_entries.specs.Entries.{EntryView, Pair}
-use Rattle.gixobj_directories.specs.RemovalErrors.{EditErrors}
-use Rattle.gixobj_directories.specs.EditNames.{IsFirstNameError}
+use Rattle.gixobj_tree_entries.specs.Entries.{EntryView, Pair}
+use Rattle.gixobj_editor_lookups.specs.RemovalErrors.{EditErrors}
+use Rattle.gixobj_editor_lookups.specs.EditNames.{IsFirstNameError}
 use Rattle.gixobj_editor.specs.Upserts.{IsNameError, IsUnopenedError}
 use Rattle.gixobj_editor.specs.FailedEdits.{IsFailedEditIn}
-use Rattle.gixobj_directories.specs.declared.error.Error.{Error}
-use Rattle.gixobj_directories.specs.declared.error.Error.TheVariants as error
-pub use Rattle.gixobj_directories.specs.EditNames.{from_root}
+use Rattle.gixobj_editor_lookups.specs.declared.error.Error.{Error}
+use Rattle.gixobj_editor_lookups.specs.declared.error.Error.TheVariants as error
+pub use Rattle.gixobj_editor_lookups.specs.EditNames.{from_root}
 
 -- the path of a cursor's directory: the root's if there are no names, or a single empty name; else the path itself
 abbrev pub cursor_path : Path → Path

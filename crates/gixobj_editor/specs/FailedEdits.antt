@@ -1,18 +1,18 @@
 -- The effect of a failed edit: how far it opened directories, which lookups it made, and which of them failed.
 use Rattle.std.specs.Prelude.{◌≡◌, ℕ, List, [], Some, ⊤}
 use Rattle.gixobj_store.specs.Stores.{StoreModel}
-use Rattle.gixobj_directories.specs.Openings.{EndsBefore, OfTrees}
-use Rattle.gixobj_directories.specs.declared.opening.NotLookedUp.{NotLookedUp}
-use Rattle.gixobj_files.specs.Bases.{HasBases, opened_bases}
-use Rattle.gixobj_directories.specs.declared.opening.Error.TheVariants as opening
-use Rattle.gixobj_files.specs.Files.{Path, SameFiles, Table, Trees}
-use Rattle.gixobj_files.specs.Opening.{IsOpened}
-use Rattle.gixobj_files.specs.State.{EditorFiles, State, open_bases, open_dirs}
-use Rattle.gixobj_files.specs.Tables.{AgreesWithStore}
-use Rattle.gixobj_entries.specs.Entries.{EntryView}
-use Rattle.gixobj_directories.specs.declared.error.Error.{Error}
-use Rattle.gixobj_directories.specs.declared.error.Error.TheVariants as error
-pub use Rattle.gixobj_directories.specs.FailedOpenings.{IsErrorAfterLookup, IsLookupError, OpensInPart, edit_error}
+use Rattle.gixobj_editor_lookups.specs.Openings.{EndsBefore, OfTrees}
+use Rattle.gixobj_editor_lookups.specs.declared.opening.NotLookedUp.{NotLookedUp}
+use Rattle.gixobj_editor_files.specs.Bases.{HasBases, opened_bases}
+use Rattle.gixobj_editor_lookups.specs.declared.opening.Error.TheVariants as opening
+use Rattle.gixobj_editor_files.specs.Files.{Path, SameFiles, Table, Trees}
+use Rattle.gixobj_editor_files.specs.Opening.{IsOpened}
+use Rattle.gixobj_editor_files.specs.State.{EditorFiles, State, open_bases, open_dirs}
+use Rattle.gixobj_editor_files.specs.Tables.{AgreesWithStore}
+use Rattle.gixobj_tree_entries.specs.Entries.{EntryView}
+use Rattle.gixobj_editor_lookups.specs.declared.error.Error.{Error}
+use Rattle.gixobj_editor_lookups.specs.declared.error.Error.TheVariants as error
+pub use Rattle.gixobj_editor_lookups.specs.FailedOpenings.{IsErrorAfterLookup, IsLookupError, OpensInPart, edit_error}
 
 -- the effect of an edit that fails with this error: directories on the path are opened in part. An open directory is
 -- still open, with its entries. The files and the rest are unchanged

@@ -1,16 +1,16 @@
 -- Plain runs, whose trees come from their writes alone, and what the ids of their roots say of the files.
 use Rattle.std.specs.Prelude.{◌≡◌, ◌≢◌, ◌↔◌, ℕ, List, [], All, Some, ⊤, take}
-use Rattle.gixobj_commands.specs.declared.command.Command.{Command}
-use Rattle.gixobj_commands.specs.declared.command.Command.TheVariants as command
-use Rattle.gixobj_commands.specs.declared.command.Edit.{Edit}
-use Rattle.gixobj_commands.specs.declared.command.Edit.TheVariants as edit
+use Rattle.gixobj_editor_commands.specs.declared.command.Command.{Command}
+use Rattle.gixobj_editor_commands.specs.declared.command.Command.TheVariants as command
+use Rattle.gixobj_editor_commands.specs.declared.command.Edit.{Edit}
+use Rattle.gixobj_editor_commands.specs.declared.command.Edit.TheVariants as edit
 use Rattle.gixobj_store.specs.Stores.{Objects}
-use Rattle.gixobj_write.specs.declared.write.Written.{Written}
-use Rattle.gixobj_files.specs.Files.{FileSet, SameFiles, Table}
-use Rattle.gixobj_files.specs.PlainHistory.{NoFiles, PlainFilesAfter}
-use Rattle.gixobj_files.specs.State.{State, root_alone}
-use Rattle.gixobj_files.specs.Tables.{HasOneIdPerTree}
-use Rattle.gixobj_entries.specs.declared.entry_kind.EntryKind.TheVariants.{Tree}
+use Rattle.gixobj_editor_write.specs.declared.write.Written.{Written}
+use Rattle.gixobj_editor_files.specs.Files.{FileSet, SameFiles, Table}
+use Rattle.gixobj_editor_files.specs.PlainHistory.{NoFiles, PlainFilesAfter}
+use Rattle.gixobj_editor_files.specs.State.{State, root_alone}
+use Rattle.gixobj_editor_files.specs.Tables.{HasOneIdPerTree}
+use Rattle.gixobj_tree_entries.specs.declared.entry_kind.EntryKind.TheVariants.{Tree}
 use Rattle.gixobj_editor.specs.Commands.{accepted_steps, emitted_pairs, written_at}
 use Rattle.gixobj_editor.specs.RunTables.{AgreesWithRun}
 use Rattle.gixobj_editor.specs.declared.reply.Reply.{Reply}

@@ -1,24 +1,24 @@
 -- Effects and errors of removals by an editor (git-update-index, `--force-remove`).
 use Rattle.std.specs.Prelude.{◌≡◌, ◌⊎◌, ℕ, Bool, true, false, List, [], Some, ⊤}
 use Rattle.gixobj_store.specs.Stores.{Objects}
-use Rattle.gixobj_directories.specs.declared.opening.Error.TheVariants as opening
-use Rattle.gixobj_files.specs.Bases.{HasBases, edited_bases, opened_bases}
-use Rattle.gixobj_files.specs.Edits.{IsNoTree, IsNotLookedUp, Opens, removed_dirs, raised}
-use Rattle.gixobj_files.specs.Files.{Path, Removed, SameFiles, Table, Trees}
-use Rattle.gixobj_files.specs.OpeningStops.{IsUnopenedAbove}
-use Rattle.gixobj_files.specs.Opening.{Dirs, IsOpened}
-use Rattle.gixobj_files.specs.State.{EditorFiles, State, open_bases, open_dirs}
-use Rattle.gixobj_files.specs.Tables.{AgreesWithStore}
-use Rattle.gixobj_files.specs.Unopened.{looked_up_entry, unopened_count}
+use Rattle.gixobj_editor_lookups.specs.declared.opening.Error.TheVariants as opening
+use Rattle.gixobj_editor_files.specs.Bases.{HasBases, edited_bases, opened_bases}
+use Rattle.gixobj_editor_files.specs.Edits.{IsNoTree, IsNotLookedUp, Opens, removed_dirs, raised}
+use Rattle.gixobj_editor_files.specs.Files.{Path, Removed, SameFiles, Table, Trees}
+use Rattle.gixobj_editor_files.specs.OpeningStops.{IsUnopenedAbove}
+use Rattle.gixobj_editor_files.specs.Opening.{Dirs, IsOpened}
+use Rattle.gixobj_editor_files.specs.State.{EditorFiles, State, open_bases, open_dirs}
+use Rattle.gixobj_editor_files.specs.Tables.{AgreesWithStore}
+use Rattle.gixobj_editor_files.specs.Unopened.{looked_up_entry, unopened_count}
 use Rattle.gixobj_hash.specs.declared.hash.object_id.ObjectId.{ObjectId}
-use Rattle.gixobj_entries.specs.Entries.{EntryView}
+use Rattle.gixobj_tree_entries.specs.Entries.{EntryView}
 use Rattle.gixobj_tree.specs.WellFormed.{IsEntryName}
-use Rattle.gixobj_entries.specs.Mode.{is_tree_mode}
-use Rattle.gixobj_directories.specs.EditNames.{directory_of}
-use Rattle.gixobj_directories.specs.RemovalErrors.{EditErrors}
-use Rattle.gixobj_directories.specs.declared.error.Error.{Error}
-use Rattle.gixobj_directories.specs.declared.error.Error.TheVariants as error
-pub use Rattle.gixobj_directories.specs.RemovalErrors.{HasInvalidName, IsLeafDirectoryError, IsOpenErrorOnPath, IsRemovalErrorUpTo, ValidatesUpTo}
+use Rattle.gixobj_tree_entries.specs.Mode.{is_tree_mode}
+use Rattle.gixobj_editor_lookups.specs.EditNames.{directory_of}
+use Rattle.gixobj_editor_lookups.specs.RemovalErrors.{EditErrors}
+use Rattle.gixobj_editor_lookups.specs.declared.error.Error.{Error}
+use Rattle.gixobj_editor_lookups.specs.declared.error.Error.TheVariants as error
+pub use Rattle.gixobj_editor_lookups.specs.RemovalErrors.{HasInvalidName, IsLeafDirectoryError, IsOpenErrorOnPath, IsRemovalErrorUpTo, ValidatesUpTo}
 
 -- the errors of a removal; its opening ends only before an entry that isn't of tree mode
 abbrev pub IsRemovalError : EditErrors

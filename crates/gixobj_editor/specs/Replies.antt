@@ -1,35 +1,35 @@
 -- The replies that the commands of a run may get, and their effects on the editor.
 use Rattle.std.specs.Prelude.{◌≡◌, ◌⊎◌, ℕ, List, [], ◌∷◌, All, Err, Ok, Result}
 use denote.Ref.{Bor}
-use Rattle.gixobj_directories.specs.Openings.{OfTrees}
-use Rattle.gixobj_commands.specs.declared.command.Command.{Command}
-use Rattle.gixobj_commands.specs.declared.command.Command.TheVariants as command
-use Rattle.gixobj_commands.specs.declared.command.Edit.{Edit}
-use Rattle.gixobj_commands.specs.declared.command.Edit.TheVariants as edit
+use Rattle.gixobj_editor_lookups.specs.Openings.{OfTrees}
+use Rattle.gixobj_editor_commands.specs.declared.command.Command.{Command}
+use Rattle.gixobj_editor_commands.specs.declared.command.Command.TheVariants as command
+use Rattle.gixobj_editor_commands.specs.declared.command.Edit.{Edit}
+use Rattle.gixobj_editor_commands.specs.declared.command.Edit.TheVariants as edit
 use Rattle.gixobj_store.specs.Stores.{StoreModel, Objects}
-use Rattle.gixobj_write.specs.Calls.{IsStorable, names_of}
-use Rattle.gixobj_write.specs.WriteErrors.{IsWriteError}
-use Rattle.gixobj_write.specs.declared.write.WriteError.{WriteError}
-use Rattle.gixobj_write.specs.declared.write.Written.{Written}
+use Rattle.gixobj_editor_write.specs.Calls.{IsStorable, names_of}
+use Rattle.gixobj_editor_write.specs.WriteErrors.{IsWriteError}
+use Rattle.gixobj_editor_write.specs.declared.write.WriteError.{WriteError}
+use Rattle.gixobj_editor_write.specs.declared.write.Written.{Written}
 use Rattle.gixobj_editor.specs.Cursors.{IsEnsured, IsWrittenBelow, IsCursorError, IsCursorEditError, cursor_path}
 use Rattle.gixobj_editor.specs.Removals.{IsLeafRemoved, IsRemoved, IsLeafRemovalError, IsRemovalError}
 use Rattle.gixobj_editor.specs.Upserts.{IsNameError, IsUpserted, IsUpsertError}
 use Rattle.gixobj_editor.specs.FailedEdits.{IsFailedEditIn}
 use Rattle.gixobj_editor.specs.Writes.{IsWrittenEditor}
-use Rattle.gixobj_directories.specs.declared.error.Error.{Error}
-use Rattle.gixobj_directories.specs.declared.error.Error.TheVariants as editing
-use Rattle.gixobj_files.specs.Bases.{HasBases}
-use Rattle.gixobj_files.specs.Files.{Files, Path, SameFiles, Table, Trees}
-use Rattle.gixobj_files.specs.Emission.{EmitsSome}
-use Rattle.gixobj_files.specs.Opening.{Dirs, in_path}
-use Rattle.gixobj_files.specs.State.{EditorFiles, State, open_bases, open_dirs, root_alone, with_store}
-use Rattle.gixobj_files.specs.Unopened.{with_empty_name}
+use Rattle.gixobj_editor_lookups.specs.declared.error.Error.{Error}
+use Rattle.gixobj_editor_lookups.specs.declared.error.Error.TheVariants as editing
+use Rattle.gixobj_editor_files.specs.Bases.{HasBases}
+use Rattle.gixobj_editor_files.specs.Files.{Files, Path, SameFiles, Table, Trees}
+use Rattle.gixobj_editor_files.specs.Emission.{EmitsSome}
+use Rattle.gixobj_editor_files.specs.Opening.{Dirs, in_path}
+use Rattle.gixobj_editor_files.specs.State.{EditorFiles, State, open_bases, open_dirs, root_alone, with_store}
+use Rattle.gixobj_editor_files.specs.Unopened.{with_empty_name}
 use Rattle.gixobj_hash.specs.declared.hash.object_id.ObjectId.{ObjectId}
-use Rattle.gixobj_keep.specs.Keeping.{StopsKeepingAt, with_trees}
-use Rattle.gixobj_entries.specs.Entries.{EntryView, Pair}
+use Rattle.gixobj_store_keep.specs.Keeping.{StopsKeepingAt, with_trees}
+use Rattle.gixobj_tree_entries.specs.Entries.{EntryView, Pair}
 use Rattle.gixobj_tree.specs.WellFormed.{IsWellFormed}
 use Rattle.gixobj_tree.specs.TreeEncoding.{IsEncodableTree}
-use Rattle.gixobj_entries.specs.Mode.{mode_of_kind}
+use Rattle.gixobj_tree_entries.specs.Mode.{mode_of_kind}
 use Rattle.gixobj_editor.specs.Commands.{Location, at_cursor, at_root, path_at}
 use Rattle.gixobj_editor.specs.declared.reply.EditReply.{EditReply}
 use Rattle.gixobj_editor.specs.declared.reply.EditReply.TheVariants as edit_reply

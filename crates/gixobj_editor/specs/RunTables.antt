@@ -1,14 +1,14 @@
 -- Tables that agree with a store, and with a run.
 use Rattle.std.specs.Prelude.{◌≡◌, ℕ, List, Some, take}
 use Rattle.gixobj_store.specs.Stores.{Objects}
-use Rattle.gixobj_directories.specs.Openings.{NamesTree}
-use Rattle.gixobj_files.specs.Files.{Table}
-use Rattle.gixobj_files.specs.Tables.{AgreesWithPairs, IsNeverLookedUp}
+use Rattle.gixobj_editor_lookups.specs.Openings.{NamesTree}
+use Rattle.gixobj_editor_files.specs.Files.{Table}
+use Rattle.gixobj_editor_files.specs.Tables.{AgreesWithPairs, IsNeverLookedUp}
 use Rattle.gixobj_hash.specs.Hash.{id_kind}
 use Rattle.gixobj_hash.specs.declared.hash.object_id.ObjectId.{ObjectId}
-use Rattle.gixobj_keep.specs.Keeping.{with_trees}
-use Rattle.gixobj_entries.specs.TreeDecoding.{DecodesToTree}
-use Rattle.gixobj_entries.specs.Entries.{EntryView, Pair}
+use Rattle.gixobj_store_keep.specs.Keeping.{with_trees}
+use Rattle.gixobj_tree_entries.specs.TreeDecoding.{DecodesToTree}
+use Rattle.gixobj_tree_entries.specs.Entries.{EntryView, Pair}
 use Rattle.gixobj_tree.specs.WellFormed.{IsWellFormed}
 use Rattle.gixobj_tree.specs.TreeEncoding.{encode_tree}
 use Rattle.gixobj_editor.specs.Commands.{emitted_pairs, kept_pairs}

@@ -1,25 +1,25 @@
 -- Effects and errors of upserts by an editor (git-update-index, `--cacheinfo`).
 use Rattle.std.specs.Prelude.{◌≡◌, ◌≢◌, ◌⊎◌, ℕ, Bool, List, [], Some, ⊤}
 use Rattle.gixobj_store.specs.Stores.{StoreModel, Objects}
-use Rattle.gixobj_open.specs.Paths.{AreNames}
-use Rattle.gixobj_directories.specs.Openings.{OfTrees, IsDirectoryError}
-use Rattle.gixobj_files.specs.Bases.{HasBases, edited_bases, opened_bases}
-use Rattle.gixobj_directories.specs.declared.opening.Error as directory
-use Rattle.gixobj_directories.specs.declared.opening.Error.TheVariants as opening
-use Rattle.gixobj_files.specs.Edits.{IsNoTree, Opens, raised, upserted_dirs}
-use Rattle.gixobj_files.specs.Files.{Path, SameFiles, Table, Trees, Upserted}
-use Rattle.gixobj_files.specs.OpeningStops.{IsUnopenedAbove}
-use Rattle.gixobj_files.specs.Opening.{Dirs, IsOpened}
-use Rattle.gixobj_files.specs.State.{EditorFiles, State, open_bases, open_dirs}
-use Rattle.gixobj_files.specs.Tables.{AgreesWithStore}
-use Rattle.gixobj_files.specs.Unopened.{unopened_count}
+use Rattle.gixobj_editor_open.specs.Paths.{AreNames}
+use Rattle.gixobj_editor_lookups.specs.Openings.{OfTrees, IsDirectoryError}
+use Rattle.gixobj_editor_files.specs.Bases.{HasBases, edited_bases, opened_bases}
+use Rattle.gixobj_editor_lookups.specs.declared.opening.Error as directory
+use Rattle.gixobj_editor_lookups.specs.declared.opening.Error.TheVariants as opening
+use Rattle.gixobj_editor_files.specs.Edits.{IsNoTree, Opens, raised, upserted_dirs}
+use Rattle.gixobj_editor_files.specs.Files.{Path, SameFiles, Table, Trees, Upserted}
+use Rattle.gixobj_editor_files.specs.OpeningStops.{IsUnopenedAbove}
+use Rattle.gixobj_editor_files.specs.Opening.{Dirs, IsOpened}
+use Rattle.gixobj_editor_files.specs.State.{EditorFiles, State, open_bases, open_dirs}
+use Rattle.gixobj_editor_files.specs.Tables.{AgreesWithStore}
+use Rattle.gixobj_editor_files.specs.Unopened.{unopened_count}
 use Rattle.gixobj_hash.specs.Hash.{null_id}
 use Rattle.gixobj_hash.specs.declared.hash.object_id.ObjectId.{ObjectId}
-use Rattle.gixobj_entries.specs.Entries.{EntryView}
-use Rattle.gixobj_directories.specs.declared.error.Error.{Error}
-use Rattle.gixobj_directories.specs.declared.error.Error.TheVariants as error
-pub use Rattle.gixobj_directories.specs.EditNames.{IsEntryNameError, IsFirstNameError, SplitsForRemoval, StartsInvalid, directory_of}
-pub use Rattle.gixobj_directories.specs.RemovalErrors.{EditErrors}
+use Rattle.gixobj_tree_entries.specs.Entries.{EntryView}
+use Rattle.gixobj_editor_lookups.specs.declared.error.Error.{Error}
+use Rattle.gixobj_editor_lookups.specs.declared.error.Error.TheVariants as error
+pub use Rattle.gixobj_editor_lookups.specs.EditNames.{IsEntryNameError, IsFirstNameError, SplitsForRemoval, StartsInvalid, directory_of}
+pub use Rattle.gixobj_editor_lookups.specs.RemovalErrors.{EditErrors}
 
 -- a directory above the path isn't opened, with this cause
 abbrev pub IsUnopenedError : Objects → (ObjectId → Bool) → Trees → Dirs → Path → directory.Error → Type 0

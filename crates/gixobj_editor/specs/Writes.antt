@@ -1,15 +1,15 @@
 -- The effect of a write of an editor's root (git-write-tree). Which trees it emits, and which directories it leaves out
--- as empty or null, is in Emission.antt of gixobj_files.
+-- as empty or null, is in Emission.antt of gixobj_editor_files.
 use Rattle.std.specs.Prelude.{◌≡◌, ◌++◌, ℕ, List, [], ◌∷◌, All}
 use Rattle.std.specs.List.{FoldsTo}
-use Rattle.gixobj_write.specs.Calls.{IsStorable}
-use Rattle.gixobj_write.specs.declared.write.Written.{Written}
-use Rattle.gixobj_files.specs.Bases.{HasBases, edited_bases}
-use Rattle.gixobj_files.specs.Files.{NamedFiles, Path, SameFiles, Table}
-use Rattle.gixobj_files.specs.Emission.{Emits}
-use Rattle.gixobj_files.specs.State.{EditorFiles, State, open_bases, open_dirs, root_alone}
-use Rattle.gixobj_files.specs.Tables.{AgreesWithPairs}
-use Rattle.gixobj_entries.specs.Entries.{EntryView, Pair}
+use Rattle.gixobj_editor_write.specs.Calls.{IsStorable}
+use Rattle.gixobj_editor_write.specs.declared.write.Written.{Written}
+use Rattle.gixobj_editor_files.specs.Bases.{HasBases, edited_bases}
+use Rattle.gixobj_editor_files.specs.Files.{NamedFiles, Path, SameFiles, Table}
+use Rattle.gixobj_editor_files.specs.Emission.{Emits}
+use Rattle.gixobj_editor_files.specs.State.{EditorFiles, State, open_bases, open_dirs, root_alone}
+use Rattle.gixobj_editor_files.specs.Tables.{AgreesWithPairs}
+use Rattle.gixobj_tree_entries.specs.Entries.{EntryView, Pair}
 
 -- the effect of a successful write. The emitted pairs end with that of the root, and the closure was called on these
 -- trees alone, in this order. Then the root alone is open, with the last emitted tree. The named tree has the editor's

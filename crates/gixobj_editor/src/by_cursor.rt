@@ -1,7 +1,7 @@
 //! Edits and writes by a cursor, with their replies.
 ghost use Rattle.std.specs.Prelude.{◌≡◌, ◌+◌, ◌≤◌, ◌++◌, ◌∷◌, [], length, vec_capacity};
 ghost use Rattle.std.specs.Fn.{FnReturnsAt};
-ghost use Rattle.gixobj_open.specs.Paths.{names_of};
+ghost use Rattle.gixobj_editor_open.specs.Paths.{names_of};
 ghost use Rattle.gixobj_editor.specs.Causes.{HasCausesAt, HasKeepCause, HaveEditCauses};
 ghost use Rattle.gixobj_editor.specs.Cursors.{cursor_path};
 ghost use Rattle.gixobj_editor.specs.Commands.{at_cursor};
@@ -14,7 +14,7 @@ use crate::edits::{push_reserved, reply_to_edit};
 use crate::reply::{EditReply, Reply};
 use bstr::BString;
 use gixobj_hash::hash::ObjectId;
-use gixobj_keep::{Keep, keep_all};
+use gixobj_store_keep::{Keep, keep_all};
 use gixobj_tree::Tree;
 use std::alloc::Global;
 

@@ -6,18 +6,18 @@ ghost use Rattle.std.specs.Borrow.{Lends, sem};
 ghost use Rattle.std.specs.Option.{option_copied};
 ghost use Rattle.gixobj_store.specs.Stores.{store_model};
 ghost use Rattle.gixobj_tree.specs.WellFormed.{IsWellFormed};
-ghost use Rattle.gixobj_entries.specs.Mode.{mode_of_kind};
-ghost use Rattle.gixobj_files.specs.Edits.{entry_at};
-ghost use Rattle.gixobj_files.specs.Files.{Files, SameFiles, Table};
-ghost use Rattle.gixobj_files.specs.Opening.{IsOpened};
-ghost use Rattle.gixobj_files.specs.Bases.{HasBases};
-ghost use Rattle.gixobj_files.specs.State.{EditorFiles, new_state, open_bases, open_dirs, root_alone, with_store};
-ghost use Rattle.gixobj_files.specs.Emission.{EmitsSome};
-ghost use Rattle.gixobj_write.specs.Calls.{IsCallableOnTrees, answered, denied, names_of};
-ghost use Rattle.gixobj_write.specs.WriteErrors.{IsWriteError};
+ghost use Rattle.gixobj_tree_entries.specs.Mode.{mode_of_kind};
+ghost use Rattle.gixobj_editor_files.specs.Edits.{entry_at};
+ghost use Rattle.gixobj_editor_files.specs.Files.{Files, SameFiles, Table};
+ghost use Rattle.gixobj_editor_files.specs.Opening.{IsOpened};
+ghost use Rattle.gixobj_editor_files.specs.Bases.{HasBases};
+ghost use Rattle.gixobj_editor_files.specs.State.{EditorFiles, new_state, open_bases, open_dirs, root_alone, with_store};
+ghost use Rattle.gixobj_editor_files.specs.Emission.{EmitsSome};
+ghost use Rattle.gixobj_editor_write.specs.Calls.{IsCallableOnTrees, answered, denied, names_of};
+ghost use Rattle.gixobj_editor_write.specs.WriteErrors.{IsWriteError};
 ghost use Rattle.gixobj_editor.specs.Writes.{IsWrittenEditor};
-ghost use Rattle.gixobj_directories.specs.Openings.{OfTrees};
-ghost use Rattle.gixobj_directories.specs.EditNames.{StartsInvalid};
+ghost use Rattle.gixobj_editor_lookups.specs.Openings.{OfTrees};
+ghost use Rattle.gixobj_editor_lookups.specs.EditNames.{StartsInvalid};
 ghost use Rattle.gixobj_editor.specs.Upserts.{IsNameError, IsUpserted, IsErrorIn, IsUpsertError};
 ghost use Rattle.gixobj_editor.specs.FailedEdits.{IsFailedEditIn};
 ghost use Rattle.gixobj_editor.specs.Removals.{IsLeafRemoved, IsRemoved, IsLeafRemovalError, IsRemovalError};
@@ -27,18 +27,18 @@ mod cursor;
 
 use bstr::BString;
 pub use cursor::Cursor;
-pub use gixobj_directories::error::Error;
-use gixobj_directories::names::{copy_names, validate_names};
-use gixobj_directories::opening::{NotLookedUp, open_along};
-use gixobj_directories::removal::{check_leaf, open_for_removal};
+pub use gixobj_editor_lookups::error::Error;
+use gixobj_editor_lookups::names::{copy_names, validate_names};
+use gixobj_editor_lookups::opening::{NotLookedUp, open_along};
+use gixobj_editor_lookups::removal::{check_leaf, open_for_removal};
 use gixobj_hash::OutOfMemory;
 use gixobj_hash::hash::{self, ObjectId};
-use gixobj_open::open::Open;
+use gixobj_editor_open::open::Open;
 use gixobj_store::Find;
 use gixobj_tree::Tree;
 use gixobj_tree::tree::{Entry, EntryKind};
-use gixobj_write::write::write_all;
-pub use gixobj_write::write::{WriteError, Written};
+use gixobj_editor_write::write::write_all;
+pub use gixobj_editor_write::write::{WriteError, Written};
 use std::marker::Model;
 
 /// An editor of a tree and of the trees below it, over an object store. [`Editor::new`] makes one.
@@ -60,11 +60,11 @@ pub struct Editor<S> {
 
 impl<S> Model for Editor<S> {
     ghost use Rattle.std.specs.FinMap as map;
-    ghost use Rattle.gixobj_open.specs.Paths.{names_of};
-    ghost use Rattle.gixobj_open.specs.Nested.{base_side, bases_of, dirs_of, entries_side, side_list};
-    ghost use Rattle.gixobj_files.specs.Bases.{AreOpenedOn};
-    ghost use Rattle.gixobj_files.specs.State.{State};
-    ghost use Rattle.gixobj_files.specs.State.Codes.{state_code};
+    ghost use Rattle.gixobj_editor_open.specs.Paths.{names_of};
+    ghost use Rattle.gixobj_editor_open.specs.Nested.{base_side, bases_of, dirs_of, entries_side, side_list};
+    ghost use Rattle.gixobj_editor_files.specs.Bases.{AreOpenedOn};
+    ghost use Rattle.gixobj_editor_files.specs.State.{State};
+    ghost use Rattle.gixobj_editor_files.specs.State.Codes.{state_code};
 
     ghost Value = { State S };
 

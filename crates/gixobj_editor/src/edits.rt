@@ -10,7 +10,7 @@ use crate::Edit;
 use crate::editor::{Editor, Error};
 use crate::reply::EditReply;
 use gixobj_hash::hash::ObjectId;
-use gixobj_keep::{Keep, keep_all};
+use gixobj_store_keep::{Keep, keep_all};
 use gixobj_tree::Tree;
 
 /// Does one edit, or a write, at paths from the root.

@@ -2,10 +2,10 @@
 //! of each function is a law.
 ghost use Rattle.std.specs.Prelude.{◌≡◌, ℕ, All, Some, take};
 ghost use Rattle.gixobj_store.specs.Stores.{Objects};
-ghost use Rattle.gixobj_directories.specs.Openings.{AreTreesOf};
-ghost use Rattle.gixobj_files.specs.Files.{Table, Trees};
-ghost use Rattle.gixobj_entries.specs.Entries.{Pair};
-ghost use Rattle.gixobj_files.specs.Tables.{AgreesWithPairs, IsConsistentWith};
+ghost use Rattle.gixobj_editor_lookups.specs.Openings.{AreTreesOf};
+ghost use Rattle.gixobj_editor_files.specs.Files.{Table, Trees};
+ghost use Rattle.gixobj_tree_entries.specs.Entries.{Pair};
+ghost use Rattle.gixobj_editor_files.specs.Tables.{AgreesWithPairs, IsConsistentWith};
 ghost use Rattle.gixobj_hash.specs.Hash.{id_kind};
 ghost use Rattle.gixobj_editor.specs.Commands.{emitted_pairs, kept_pairs, written_at};
 ghost use Rattle.gixobj_editor.specs.RunTables.{AgreesWithRun, DecodesToItself};

@@ -10,6 +10,6 @@ pub mod laws;
 pub mod reply;
 mod running;
 
-pub use gixobj_commands::{Command, Edit};
+pub use gixobj_editor_commands::{Command, Edit};
 pub use reply::{EditReply, Reply};
 pub use running::{run, run_command};

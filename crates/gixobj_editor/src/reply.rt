@@ -1,6 +1,6 @@
 //! Replies to the commands of a run.
 use crate::editor::{Error, WriteError, Written};
-use gixobj_keep::KeepError;
+use gixobj_store_keep::KeepError;
 
 /// The reply to an [`Edit`](crate::Edit): to an edit, or to a write.
 #[derive(Debug, Drop)]
@@ -14,7 +14,7 @@ pub enum EditReply<E> {
     /// The write failed with this error. The editor is unchanged.
     WriteRefused(WriteError<E>),
     /// The result of a write, the number of emitted trees that the store has kept, in order, and the error
-    /// that [`Keep::keep`](gixobj_keep::Keep::keep) returned for the next one.
+    /// that [`Keep::keep`](gixobj_store_keep::Keep::keep) returned for the next one.
     NotKept(Written, usize, KeepError),
 }
 

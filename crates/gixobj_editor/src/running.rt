@@ -1,17 +1,17 @@
 //! Runs of commands on an editor, and the theorem of the files that a written tree has.
 ghost use Rattle.std.specs.Prelude.{◌≡◌, [], ℕ, IfOk, OnErr, Some, take};
 ghost use Rattle.std.specs.Fn.{FnReturnsAt};
-ghost use Rattle.gixobj_files.specs.Bases.{HasBases};
-ghost use Rattle.gixobj_files.specs.Files.{NamedFiles, SameFiles, Table};
-ghost use Rattle.gixobj_files.specs.History.{FilesAfter};
-ghost use Rattle.gixobj_files.specs.State.{EditorFiles, open_bases, open_dirs};
-ghost use Rattle.gixobj_files.specs.Tables.{AgreesWithPairs};
+ghost use Rattle.gixobj_editor_files.specs.Bases.{HasBases};
+ghost use Rattle.gixobj_editor_files.specs.Files.{NamedFiles, SameFiles, Table};
+ghost use Rattle.gixobj_editor_files.specs.History.{FilesAfter};
+ghost use Rattle.gixobj_editor_files.specs.State.{EditorFiles, open_bases, open_dirs};
+ghost use Rattle.gixobj_editor_files.specs.Tables.{AgreesWithPairs};
 ghost use Rattle.gixobj_editor.specs.Causes.{HasReplyCauses, HaveRunCauses};
 ghost use Rattle.gixobj_editor.specs.Commands.{accepted_steps, kept_pairs, written_at};
 ghost use Rattle.gixobj_editor.specs.PlainRuns.{IdsDetermineFiles, IsPlainRun};
 ghost use Rattle.gixobj_editor.specs.Replies.{IsCallable, IsReply, IsRun};
 ghost use Rattle.gixobj_editor.specs.RunTables.{AgreesWithRun};
-ghost use Rattle.gixobj_keep.specs.Keeping.{with_trees};
+ghost use Rattle.gixobj_store_keep.specs.Keeping.{with_trees};
 ghost use Rattle.gixobj_store.specs.Stores.{store_model};
 
 use crate::Command;
@@ -21,7 +21,7 @@ use crate::edits::{do_edit, push_reserved};
 use crate::reply::Reply;
 use gixobj_hash::OutOfMemory;
 use gixobj_hash::hash::ObjectId;
-use gixobj_keep::Keep;
+use gixobj_store_keep::Keep;
 use gixobj_tree::Tree;
 use std::alloc::Global;
 

@@ -1,6 +1,6 @@
 -- The error of a tool for a write of the editor.
-use Rattle.gixobj_write.specs.declared.write.WriteError.{WriteError}
-use Rattle.gixobj_write.specs.declared.write.WriteError.TheVariants as write
+use Rattle.gixobj_editor_write.specs.declared.write.WriteError.{WriteError}
+use Rattle.gixobj_editor_write.specs.declared.write.WriteError.TheVariants as write
 use Rattle.gixobj_error.specs.declared.error.Error.{Error}
 use Rattle.gixobj_error.specs.declared.error.Error.TheVariants as tool
 

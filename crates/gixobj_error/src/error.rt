@@ -9,11 +9,11 @@ mod stores;
 
 use gixobj_editor::editor;
 use gixobj_encode::{encode, stream_hash};
-use gixobj_find::find::{self, existing, existing_iter, existing_object};
-use gixobj_find::write;
+use gixobj_store_find::find::{self, existing, existing_iter, existing_object};
+use gixobj_store_find::write;
 use gixobj_hash::{OutOfMemory, decode, hash, kind};
-use gixobj_import::ImportError;
-use gixobj_keep::KeepError;
+use gixobj_editor_import::ImportError;
+use gixobj_store_keep::KeepError;
 use gixobj_object::LooseDecodeError;
 use gixobj_signature::signature::{RunError, sign, verify};
 use gixobj_store::data;

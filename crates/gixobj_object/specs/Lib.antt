@@ -3,7 +3,7 @@ pub mod LooseObjects
 pub mod ObjectReading
 pub mod Objects
 pub mod Parts
-pub use Rattle.gixobj_line.specs.Commit
+pub use Rattle.gixobj_grammar.specs.Commit
 pub use Rattle.gixobj_commit.specs.CommitOwned
 pub use Rattle.gixobj_commit.specs.CommitViews
 pub use Rattle.gixobj_commit.specs.CommitWriting
@@ -13,13 +13,13 @@ pub use Rattle.gixobj_hash.specs.Decode
 pub use Rattle.gixobj_hash.specs.Encode
 pub use Rattle.gixobj_hash.specs.Hash
 pub use Rattle.gixobj_hash.specs.Kind
-pub use Rattle.gixobj_ref_iter.specs.TagTokenSteps
-pub use Rattle.gixobj_ref_iter.specs.CommitTokenSteps
+pub use Rattle.gixobj_tokens.specs.TagTokenSteps
+pub use Rattle.gixobj_tokens.specs.CommitTokenSteps
 pub use Rattle.gixobj_tag.specs.TagOwned
 pub use Rattle.gixobj_tag.specs.TagFormat
 pub use Rattle.gixobj_tag.specs.TagViews
 pub use Rattle.gixobj_tag.specs.TagWriting
-pub use Rattle.gixobj_entries.specs.TreeDecoding
+pub use Rattle.gixobj_tree_entries.specs.TreeDecoding
 pub use Rattle.gixobj_tree.specs.TreeEncoding
 pub use Rattle.gixobj_tree.specs.TreeSizes
 pub use Rattle.gixobj_tree.specs.TreeViews

@@ -6,10 +6,10 @@ use Rattle.gixobj_hash.specs.declared.decode.Error.TheVariants.{Malformed}
 use Rattle.gixobj_hash.specs.declared.hash.kind.Kind as hash
 use Rattle.gixobj_hash.specs.declared.kind.Kind.{Kind}
 use Rattle.gixobj_hash.specs.declared.kind.Kind.TheVariants as kind
-use Rattle.gixobj_line.specs.Commit.{DecodesToCommit, IsCommitDecodeError}
+use Rattle.gixobj_grammar.specs.Commit.{DecodesToCommit, IsCommitDecodeError}
 use Rattle.gixobj_tag.specs.TagFormat.{IsMalformedTag, DecodesToTag}
 use Rattle.gixobj_tag.specs.TagViews.{tag_lines}
-use Rattle.gixobj_entries.specs.TreeDecoding.{DecodesToTree, IsTreeDecodeError}
+use Rattle.gixobj_tree_entries.specs.TreeDecoding.{DecodesToTree, IsTreeDecodeError}
 use Rattle.gixobj_tree.specs.TreeViews.{tree_entries}
 use Rattle.gixobj_object.specs.declared.object.borrowed.ObjectRef.{ObjectRef}
 use Rattle.gixobj_object.specs.declared.object.borrowed.ObjectRef.TheVariants as object

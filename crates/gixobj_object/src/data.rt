@@ -3,14 +3,14 @@ ghost use Rattle.std.specs.Prelude.{◌≡◌, ◌↔◌, IfErr, IfOk, IfSome, I
 ghost use Rattle.gixobj_hash.specs.declared.kind.Kind.TheVariants as object;
 ghost use Rattle.gixobj_object.specs.BorrowedObjects.{BorrowsHeaderLines, HasObjectIds, IsReadyToWrite};
 ghost use Rattle.gixobj_object.specs.ObjectReading.{DecodesToObject, IsObjectDecodeError};
-ghost use Rattle.gixobj_ref_iter.specs.TagTokenSteps.{IsAtStartOfTag};
-ghost use Rattle.gixobj_ref_iter.specs.CommitTokenSteps.{IsAtStartOfCommit};
+ghost use Rattle.gixobj_tokens.specs.TagTokenSteps.{IsAtStartOfTag};
+ghost use Rattle.gixobj_tokens.specs.CommitTokenSteps.{IsAtStartOfCommit};
 
 use crate::ObjectRef;
 use gixobj_hash::Kind;
 use gixobj_hash::decode::Error;
-use gixobj_ref_iter::{CommitRefIter, TagRefIter};
 use gixobj_store::Data;
+use gixobj_tokens::{CommitRefIter, TagRefIter};
 use std::alloc::Global;
 
 /// Decoding of [`Data`], the only type that implements it.

@@ -4,9 +4,9 @@ use Rattle.std.proofs.lemmas.List.{drop_all}
 use Rattle.std.proofs.Math.Seq.{drop-cons}
 use Rattle.bstr.specs.Owned.{bstring_bytes}
 use Rattle.bstr.specs.declared.bstring.BString.{BString}
-use Rattle.gixobj_report.specs.Calls.{Answer, CallView, OutputView, ran, failed, no_memory}
+use Rattle.gixobj_signature_reports.specs.Calls.{Answer, CallView, OutputView, ran, failed, no_memory}
 use Rattle.gixobj_signature.specs.Plans.{BeginsPlan, IsCarriedOut, IsRemainingPlan, Plan, run_then, done, no_more}
-use Rattle.gixobj_report.specs.declared.report.TrustLevel.TheVariants as trust
+use Rattle.gixobj_signature_reports.specs.declared.report.TrustLevel.TheVariants as trust
 use Rattle.gixobj_signature.specs.Verifiers.{ProgramView, SshView}
 use Rattle.gixobj_signature.specs.Verifying.{VerifyOutcome, accepts, on_output, rest_plan, ssh_verified, tries}
 use Rattle.gixobj_signature.specs.VerifyingCalls.{principal_call}

@@ -1,6 +1,6 @@
 -- Plans of calls, in which each answer chooses the next step.
 use Rattle.std.specs.Prelude.{◌≡◌, ◌⊎◌, IfNone, Option, Some, None, ⊤}
-use Rattle.gixobj_report.specs.Calls.{CallView, Answer}
+use Rattle.gixobj_signature_reports.specs.Calls.{CallView, Answer}
 
 -- a plan: done with this outcome; a call, whose answer chooses the rest; or no more, since memory ran out
 pub data Plan (R : Type 0) : Type 0 where

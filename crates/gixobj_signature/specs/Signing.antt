@@ -7,11 +7,11 @@ use Rattle.bstr.specs.declared.bstring.BString.{BString}
 use Rattle.gixobj_streams.specs.declared.encode.Error as encode
 use Rattle.gixobj_hash.specs.declared.decode.Error as decode
 use Rattle.gixobj_hash.specs.Bytes.{carriage_return, newline}
-use Rattle.gixobj_report.specs.Fields.{after_prefix, either}
-use Rattle.gixobj_fields.specs.declared.signature.Format.{Format}
-use Rattle.gixobj_fields.specs.declared.signature.Format.TheVariants as format
-use Rattle.gixobj_report.specs.Calls.{Answer, CallView, Failure, OutputView, WordView, failed, file, no_file, no_memory, no_time, not_spawned, not_reported, pair_view, ran, plain}
-use Rattle.gixobj_report.specs.Pieces.{git_arguments}
+use Rattle.gixobj_signature_reports.specs.Fields.{after_prefix, either}
+use Rattle.gixobj_parse.specs.declared.signature.Format.{Format}
+use Rattle.gixobj_parse.specs.declared.signature.Format.TheVariants as format
+use Rattle.gixobj_signature_reports.specs.Calls.{Answer, CallView, Failure, OutputView, WordView, failed, file, no_file, no_memory, no_time, not_spawned, not_reported, pair_view, ran, plain}
+use Rattle.gixobj_signature_reports.specs.Pieces.{git_arguments}
 use Rattle.gixobj_signature.specs.Plans.{IsCarriedOut, Plan, run_then, done, no_more}
 use Rattle.gixobj_signature.specs.declared.signature.sign.Options.{Options}
 use Rattle.gixobj_signature.specs.declared.signature.sign.Error.{Error}

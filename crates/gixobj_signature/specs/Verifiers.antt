@@ -2,8 +2,8 @@
 use Rattle.std.specs.Prelude.{ℕ, ℤ, List, Option, map}
 use Rattle.std.specs.Option.{option_map}
 use Rattle.bstr.specs.Owned.{bstring_bytes}
-use Rattle.gixobj_report.specs.Calls.{pair_view}
-use Rattle.gixobj_report.specs.declared.report.TrustLevel.{TrustLevel}
+use Rattle.gixobj_signature_reports.specs.Calls.{pair_view}
+use Rattle.gixobj_signature_reports.specs.declared.report.TrustLevel.{TrustLevel}
 use Rattle.gixobj_signature.specs.declared.signature.verify.Options.{Options}
 use Rattle.gixobj_signature.specs.declared.signature.verify.Options.TheVariants as options
 use Rattle.gixobj_signature.specs.declared.signature.verify.Program.{Program}

@@ -7,20 +7,20 @@ use Rattle.bstr.specs.Owned.{bstring_bytes}
 use Rattle.bstr.specs.Text.{lines_of, without_terminator}
 use Rattle.bstr.specs.Utf8.{lossy_chars}
 use Rattle.bstr.specs.declared.bstr.BStr.{BStr}
-use Rattle.gixobj_report.specs.Calls.{Answer, CallView, Failure, OutputView, failed, no_file, no_memory, no_time, not_spawned, not_reported, output_view, ran}
-use Rattle.gixobj_report.specs.GpgReports.{gpg_report}
-use Rattle.gixobj_report.specs.Outcomes.{OutcomeView, evaluated, outcome_view}
+use Rattle.gixobj_signature_reports.specs.Calls.{Answer, CallView, Failure, OutputView, failed, no_file, no_memory, no_time, not_spawned, not_reported, output_view, ran}
+use Rattle.gixobj_signature_reports.specs.GpgReports.{gpg_report}
+use Rattle.gixobj_signature_reports.specs.Outcomes.{OutcomeView, evaluated, outcome_view}
 use Rattle.gixobj_signature.specs.Plans.{IsCarriedOut, Plan, AllocatesForCalls, run_then, done, no_more}
-use Rattle.gixobj_report.specs.SshReports.{ssh_report}
-use Rattle.gixobj_report.specs.declared.call.Output.{Output}
-use Rattle.gixobj_report.specs.declared.call.RunError.{RunError}
-use Rattle.gixobj_report.specs.declared.call.RunError.TheVariants as run
-use Rattle.gixobj_report.specs.declared.report.Outcome.{Outcome}
-use Rattle.gixobj_report.specs.declared.report.TrustLevel.{TrustLevel}
-use Rattle.gixobj_report.specs.declared.report.TrustLevel.TheVariants as trust
-use Rattle.gixobj_fields.specs.Markers.{BeginsWithMarker, BeginsWithNoMarker}
-use Rattle.gixobj_fields.specs.declared.signature.Format.{Format}
-use Rattle.gixobj_fields.specs.declared.signature.Format.TheVariants as format
+use Rattle.gixobj_signature_reports.specs.SshReports.{ssh_report}
+use Rattle.gixobj_signature_reports.specs.declared.call.Output.{Output}
+use Rattle.gixobj_signature_reports.specs.declared.call.RunError.{RunError}
+use Rattle.gixobj_signature_reports.specs.declared.call.RunError.TheVariants as run
+use Rattle.gixobj_signature_reports.specs.declared.report.Outcome.{Outcome}
+use Rattle.gixobj_signature_reports.specs.declared.report.TrustLevel.{TrustLevel}
+use Rattle.gixobj_signature_reports.specs.declared.report.TrustLevel.TheVariants as trust
+use Rattle.gixobj_parse.specs.Markers.{BeginsWithMarker, BeginsWithNoMarker}
+use Rattle.gixobj_parse.specs.declared.signature.Format.{Format}
+use Rattle.gixobj_parse.specs.declared.signature.Format.TheVariants as format
 use Rattle.gixobj_signature.specs.SignedBytes.{signed_bytes}
 use Rattle.gixobj_signature.specs.Verifiers.{VerifyOptionsView, ProgramView, SshView, by_open_pgp, by_ssh, by_x509, verify_options_view}
 use Rattle.gixobj_signature.specs.VerifyingCalls.{novalidate_call, open_pgp_call, principal_call, principals_call, x509_call}

@@ -1,7 +1,7 @@
 -- The calls of programs that verify. In each of them file 0 is the signature.
 use Rattle.std.specs.Prelude.{ℕ, List, [], ◌∷◌, ◌++◌, Option, Some, None, codes, map}
-use Rattle.gixobj_report.specs.Calls.{CallView, WordView, file, plain, verify_time}
-use Rattle.gixobj_report.specs.Pieces.{git_arguments}
+use Rattle.gixobj_signature_reports.specs.Calls.{CallView, WordView, file, plain, verify_time}
+use Rattle.gixobj_signature_reports.specs.Pieces.{git_arguments}
 use Rattle.gixobj_signature.specs.Verifiers.{ProgramView, SshView}
 
 -- a call of the program with these arguments, files and input

@@ -4,6 +4,6 @@ pub mod sign;
 mod signed_data;
 pub mod verify;
 
-pub use gixobj_report::call::{Call, Output, RunError, Runner, Word};
-pub use gixobj_report::report;
+pub use gixobj_signature_reports::call::{Call, Output, RunError, Runner, Word};
+pub use gixobj_signature_reports::report;
 pub use signed_data::SignedData;

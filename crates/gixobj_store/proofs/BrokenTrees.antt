@@ -4,9 +4,9 @@ use Rattle.std.proofs.Common.{◌≡◌, ◌≢◌, ◌≤◌, ◌++◌, ◌∷�
 use Rattle.std.specs.List.{AllZip, concat}
 use Rattle.gixobj_hash.specs.Runs.{Ending, broken, yields_end, yields_error, yields_piece}
 use Rattle.gixobj_hash.specs.declared.hash.kind.Kind.{Kind}
-use Rattle.gixobj_entries.specs.Entries.{EntryView}
-use Rattle.gixobj_entries.proofs.OneEntry.{entry_unique}
-use Rattle.gixobj_entries.specs.TreeDecoding.{BeginsWithEntry, BeginsWithNoEntry, DecodesToEntry, DecodesToTree, YieldsEntries}
+use Rattle.gixobj_tree_entries.specs.Entries.{EntryView}
+use Rattle.gixobj_tree_entries.proofs.OneEntry.{entry_unique}
+use Rattle.gixobj_tree_entries.specs.TreeDecoding.{BeginsWithEntry, BeginsWithNoEntry, DecodesToEntry, DecodesToTree, YieldsEntries}
 use Rattle.gixobj_store.specs.TreeReaders.{IsLongestPrefix}
 
 -- the end of a run that breaks off: the encodings of some entries leave no fewer bytes than the run

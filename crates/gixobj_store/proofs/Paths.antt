@@ -8,14 +8,14 @@ use Rattle.gixobj_hash.specs.declared.hash.kind.Kind as hash
 use Rattle.gixobj_hash.specs.declared.hash.object_id.ObjectId.{ObjectId}
 use Rattle.gixobj_hash.specs.declared.kind.Kind.{Kind}
 use Rattle.gixobj_hash.specs.declared.kind.Kind.TheVariants.{Blob, Commit, Tag, Tree}
-use Rattle.gixobj_entries.specs.Entries.{EntryView}
-use Rattle.gixobj_entries.proofs.OneEntry.{entry_unique, entry_rest_len_lt}
-use Rattle.gixobj_entries.specs.TreeDecoding.{BeginsWithEntry, EntryStep, YieldsEntries}
+use Rattle.gixobj_tree_entries.specs.Entries.{EntryView}
+use Rattle.gixobj_tree_entries.proofs.OneEntry.{entry_unique, entry_rest_len_lt}
+use Rattle.gixobj_tree_entries.specs.TreeDecoding.{BeginsWithEntry, EntryStep, YieldsEntries}
 use Rattle.std.specs.Option.{option_map}
 use Rattle.std.specs.declared.ops.ControlFlow.{ControlFlow}
 use Rattle.std.specs.declared.ops.ControlFlow.TheVariants.{Break, Continue}
-use Rattle.gixobj_entries.specs.EntryViews.{entry_view}
-use Rattle.gixobj_entries.specs.declared.entry_ref.EntryRef.{EntryRef}
+use Rattle.gixobj_tree_entries.specs.EntryViews.{entry_view}
+use Rattle.gixobj_tree_entries.specs.declared.entry_ref.EntryRef.{EntryRef}
 use Rattle.gixobj_store.specs.Lookups.{FoundIn, HasFirstNamed, HasNoEntryNamed, IsAtPath, IsNamed, IsPath, IsStep, LeadsTo, Name, IsPathError}
 use Rattle.gixobj_store.specs.Stores.{Objects, IsFindError, StoredObject, named}
 use Rattle.gixobj_store.specs.declared.find.Error.{Error}

@@ -1,16 +1,16 @@
 -- Search of an iterator over entries for a name.
 use Rattle.std.proofs.Common.{◌≡◌, ◌≤◌, ℕ, List, arith, length, refl}
 use Rattle.std.specs.Prelude.{⊤, Some, None, Result, Ok, Err}
-use Rattle.gixobj_fields.proofs.Readers as readers
+use Rattle.gixobj_parse.proofs.Readers as readers
 use Rattle.gixobj_hash.specs.Runs.{broken, complete}
 use Rattle.gixobj_hash.specs.declared.decode.Error.{Error}
 use Rattle.gixobj_hash.specs.declared.decode.Error.TheVariants.{Malformed, OutOfMemory}
 use Rattle.gixobj_hash.specs.declared.hash.kind.Kind.{Kind}
-use Rattle.gixobj_entries.specs.Entries.{EntryView}
-use Rattle.gixobj_entries.proofs.OneEntry.{entry_rest_len_lt}
-use Rattle.gixobj_entries.specs.TreeDecoding.{EntryStep}
-use Rattle.gixobj_entries.specs.EntryViews.{entry_view}
-use Rattle.gixobj_entries.specs.declared.entry_ref.EntryRef.{EntryRef}
+use Rattle.gixobj_tree_entries.specs.Entries.{EntryView}
+use Rattle.gixobj_tree_entries.proofs.OneEntry.{entry_rest_len_lt}
+use Rattle.gixobj_tree_entries.specs.TreeDecoding.{EntryStep}
+use Rattle.gixobj_tree_entries.specs.EntryViews.{entry_view}
+use Rattle.gixobj_tree_entries.specs.declared.entry_ref.EntryRef.{EntryRef}
 use Rattle.gixobj_store.proofs.Paths.{no_entry_named_of_search}
 use Rattle.gixobj_store.specs.EntrySteps.{NextEntry, NoEntryAllocates, remaining_tree_bytes, tree_reader_state}
 use Rattle.gixobj_store.specs.Lookups.{HasFirstNamed, HasNoEntryNamed, IsNamed, Name}

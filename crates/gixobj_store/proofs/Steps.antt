@@ -11,8 +11,8 @@ use Rattle.bstr.specs.Owned.{bstring_bytes}
 use Rattle.bstr.specs.declared.bstring.BString.{BString}
 use Rattle.gixobj_hash.specs.declared.hash.object_id.ObjectId.{ObjectId}
 use Rattle.gixobj_hash.specs.declared.kind.Kind.TheVariants.{Tree}
-use Rattle.gixobj_entries.specs.EntryViews.{entry_view}
-use Rattle.gixobj_entries.specs.declared.entry_ref.EntryRef.{EntryRef}
+use Rattle.gixobj_tree_entries.specs.EntryViews.{entry_view}
+use Rattle.gixobj_tree_entries.specs.declared.entry_ref.EntryRef.{EntryRef}
 use Rattle.gixobj_store.proofs.PathBytes.{are_names_of_path, path_names, path_names_unique}
 use Rattle.gixobj_store.proofs.Paths.{Follows, is_at_path_broken, is_at_path_complete, not_leads_to_in_none, kind_tree_or_not}
 use Rattle.gixobj_store.specs.EntrySteps.{IsAtEntry}

@@ -3,15 +3,15 @@ use Rattle.std.proofs.Common.{◌++◌, ◌∷◌, List, [], ℕ, Ok, Err, Some,
 use Rattle.std.proofs.lemmas.List.{append-nil, append_assoc}
 use Rattle.std.specs.Prelude.{⊤, Option, Result}
 use Rattle.gixobj_hash.proofs.Runs.{begins_with_pieces_snoc, yields_of_begins_with_pieces}
-use Rattle.gixobj_fields.specs.Iterators.{ReaderState}
+use Rattle.gixobj_parse.specs.Iterators.{ReaderState}
 use Rattle.gixobj_hash.specs.Runs.{broken, complete, yields_end, yields_error}
 use Rattle.gixobj_hash.specs.declared.decode.Error.{Error}
 use Rattle.gixobj_hash.specs.declared.decode.Error.TheVariants.{Malformed, OutOfMemory}
 use Rattle.gixobj_hash.specs.declared.hash.kind.Kind.{Kind}
-use Rattle.gixobj_entries.specs.Entries.{EntryView}
-use Rattle.gixobj_entries.specs.TreeDecoding.{EntryStep, YieldsEntries}
-use Rattle.gixobj_entries.specs.EntryViews.{entry_view}
-use Rattle.gixobj_entries.specs.declared.entry_ref.EntryRef.{EntryRef}
+use Rattle.gixobj_tree_entries.specs.Entries.{EntryView}
+use Rattle.gixobj_tree_entries.specs.TreeDecoding.{EntryStep, YieldsEntries}
+use Rattle.gixobj_tree_entries.specs.EntryViews.{entry_view}
+use Rattle.gixobj_tree_entries.specs.declared.entry_ref.EntryRef.{EntryRef}
 use Rattle.gixobj_store.specs.EntrySteps.{NextEntry, HasConsumedEntries, IsAtEntry, IsTail, remaining_tree_bytes, tree_reader_state}
 use Rattle.gixobj_store.specs.declared.tree.TreeRefIter.{TreeRefIter}
 

@@ -1,14 +1,14 @@
 -- Steps of the iterator over tree entries (gitdatamodel, "trees").
 use Rattle.std.specs.Prelude.{◌≡◌, ◌++◌, ℕ, List, Option, Result, length, ⊤}
 use Rattle.std.specs.Iterator.{Count, at_most}
-use Rattle.gixobj_fields.specs.Iterators.{NextPiece, ReaderState}
+use Rattle.gixobj_parse.specs.Iterators.{NextPiece, ReaderState}
 use Rattle.gixobj_hash.specs.Runs as runs
 use Rattle.gixobj_hash.specs.declared.decode.Error.{Error}
 use Rattle.gixobj_hash.specs.declared.hash.kind.Kind.{Kind}
-use Rattle.gixobj_entries.specs.Entries.{EntryView}
-use Rattle.gixobj_entries.specs.TreeDecoding.{EntryStep}
-use Rattle.gixobj_entries.specs.EntryViews.{entry_view}
-use Rattle.gixobj_entries.specs.declared.entry_ref.EntryRef.{EntryRef}
+use Rattle.gixobj_tree_entries.specs.Entries.{EntryView}
+use Rattle.gixobj_tree_entries.specs.TreeDecoding.{EntryStep}
+use Rattle.gixobj_tree_entries.specs.EntryViews.{entry_view}
+use Rattle.gixobj_tree_entries.specs.declared.entry_ref.EntryRef.{EntryRef}
 use Rattle.gixobj_store.specs.declared.tree.TreeRefIter.{TreeRefIter}
 
 -- the remaining bytes of an iterator

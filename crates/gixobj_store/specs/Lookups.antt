@@ -9,10 +9,10 @@ use Rattle.gixobj_hash.specs.declared.hash.object_id.ObjectId.{ObjectId}
 use Rattle.gixobj_hash.specs.declared.kind.Kind.TheVariants.{Tree}
 use Rattle.gixobj_hash.specs.Bytes.{slash}
 use Rattle.gixobj_hash.specs.Splits.{IsSplitAtEach}
-use Rattle.gixobj_entries.specs.Entries.{EntryView}
-use Rattle.gixobj_entries.specs.TreeDecoding.{EntryStep}
-use Rattle.gixobj_entries.specs.EntryViews.{entry_view}
-use Rattle.gixobj_entries.specs.declared.entry_ref.EntryRef.{EntryRef}
+use Rattle.gixobj_tree_entries.specs.Entries.{EntryView}
+use Rattle.gixobj_tree_entries.specs.TreeDecoding.{EntryStep}
+use Rattle.gixobj_tree_entries.specs.EntryViews.{entry_view}
+use Rattle.gixobj_tree_entries.specs.declared.entry_ref.EntryRef.{EntryRef}
 use Rattle.gixobj_store.specs.EntrySteps.{remaining_tree_bytes}
 use Rattle.gixobj_store.specs.Stores.{Objects, StoredObject, named}
 use Rattle.gixobj_store.specs.declared.find.Error.{Error}

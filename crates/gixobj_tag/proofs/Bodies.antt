@@ -2,8 +2,8 @@
 use Rattle.std.proofs.Common.{◌≡◌, ◌+◌, ℕ, List, ◌∷◌, ◌++◌, Option, Some, IsFalse, IsTrue, ap, arith, drop, length, refl, subst, sym, take, ◌∙◌}
 use Rattle.std.proofs.Math.Seq.{drop-append_seam, take-append_seam}
 use Rattle.std.proofs.lemmas.Bool.{true≢false}
-use Rattle.gixobj_fields.proofs.MarkerPlaces.{no_marker_and_marker_place, marker_place_unique}
-use Rattle.gixobj_line.specs.TagBodies.{IsBody, IsParted, are_newlines, after_a_newline, newlines_alone, signed, signed_at_once, unsigned}
+use Rattle.gixobj_parse.proofs.MarkerPlaces.{no_marker_and_marker_place, marker_place_unique}
+use Rattle.gixobj_grammar.specs.TagBodies.{IsBody, IsParted, are_newlines, after_a_newline, newlines_alone, signed, signed_at_once, unsigned}
 
 -- ---- unique split
 

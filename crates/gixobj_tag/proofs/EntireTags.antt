@@ -3,8 +3,8 @@
 use Rattle.std.proofs.Common.{◌≡◌, ℕ, List, ◌∷◌, ◌++◌, IsTrue, Option, Some, None, append_assoc, ap, arith, refl, subst, sym, ◌∙◌}
 use Rattle.std.proofs.lemmas.Bool.{true≢false}
 use Rattle.std.specs.Prelude.{codes}
-use Rattle.gixobj_fields.proofs.HeaderFields.{hex_digits_newline_free, first_bytes_eq, field_unique}
-use Rattle.gixobj_fields.specs.HeaderReading.{BeginsWithIdField, BeginsWithNoIdField, BeginsWithNoKindField}
+use Rattle.gixobj_parse.proofs.HeaderFields.{hex_digits_newline_free, first_bytes_eq, field_unique}
+use Rattle.gixobj_parse.specs.HeaderReading.{BeginsWithIdField, BeginsWithNoIdField, BeginsWithNoKindField}
 use Rattle.gixobj_hash.specs.HeaderFormat.{BeginsWithField, BeginsWithOtherName}
 use Rattle.gixobj_hash.specs.FieldFormat.{encode_field}
 use Rattle.gixobj_hash.proofs.Headers.{kind_keyword_injective}
@@ -13,10 +13,10 @@ use Rattle.gixobj_hash.specs.declared.hash.kind.Kind as hash
 use Rattle.gixobj_hash.specs.declared.kind.Kind.{Kind}
 use Rattle.gixobj_hash.specs.declared.kind.Kind.TheVariants as object
 use Rattle.gixobj_tag.proofs.Bodies.{body_unique}
-use Rattle.gixobj_line.proofs.TagLines.{tagger_unique}
-use Rattle.gixobj_line.specs.TagLines.{BeginsWithTagName, BeginsWithNoTagName, BeginsWithMalformedTagger, BeginsWithTagger}
+use Rattle.gixobj_grammar.proofs.TagLines.{tagger_unique}
+use Rattle.gixobj_grammar.specs.TagLines.{BeginsWithTagName, BeginsWithNoTagName, BeginsWithMalformedTagger, BeginsWithTagger}
 use Rattle.gixobj_tag.specs.TagFormat.{IsMalformedTag, DecodesToTag, IsTaggerLine, TagLines, encode_tagger}
-use Rattle.gixobj_line.specs.TagBodies.{IsMalformedBody, IsBody, are_newlines, after_a_newline, newlines_alone}
+use Rattle.gixobj_grammar.specs.TagBodies.{IsMalformedBody, IsBody, are_newlines, after_a_newline, newlines_alone}
 use Rattle.gixobj_hash.proofs.Splits.{byte_free_of_all_pass}
 use Rattle.gixobj_hash.specs.ByteStrings.{IsByteFree}
 

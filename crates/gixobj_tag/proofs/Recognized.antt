@@ -7,13 +7,13 @@ use Rattle.std.proofs.lemmas.Slice.Eq.{starts_is}
 use Rattle.std.specs.List.{starts_with}
 use Rattle.std.specs.Prelude.{codes, nat_eq}
 use Rattle.gixobj_hash.specs.declared.hash.kind.Kind as hash
-use Rattle.gixobj_fields.proofs.MarkerPlaces.{begins_with_marker_at_position, marker_place_le_len, starts_line_at_marker}
-use Rattle.gixobj_fields.specs.Markers.{BeginsWithMarker, BeginsWithNoMarker, IsMarkerOf, IsMarkerPlace, HasMarkerAt, StartsLine, pgp_message, pgp_signature, signed_message, ssh_signature}
-use Rattle.gixobj_fields.specs.declared.signature.Format.{Format}
-use Rattle.gixobj_line.specs.TagPrefix.{IsTagBody, IsTag}
-use Rattle.gixobj_line.proofs.TagBodies.{is_body_after_newline}
+use Rattle.gixobj_parse.proofs.MarkerPlaces.{begins_with_marker_at_position, marker_place_le_len, starts_line_at_marker}
+use Rattle.gixobj_parse.specs.Markers.{BeginsWithMarker, BeginsWithNoMarker, IsMarkerOf, IsMarkerPlace, HasMarkerAt, StartsLine, pgp_message, pgp_signature, signed_message, ssh_signature}
+use Rattle.gixobj_parse.specs.declared.signature.Format.{Format}
+use Rattle.gixobj_grammar.specs.TagPrefix.{IsTagBody, IsTag}
+use Rattle.gixobj_grammar.proofs.TagBodies.{is_body_after_newline}
 use Rattle.gixobj_tag.specs.TagFormat.{DecodesToTag, TagLines}
-use Rattle.gixobj_line.specs.TagBodies.{IsBody, IsParted, are_newlines, after_a_newline, newlines_alone, signed, signed_at_once, unsigned}
+use Rattle.gixobj_grammar.specs.TagBodies.{IsBody, IsParted, are_newlines, after_a_newline, newlines_alone, signed, signed_at_once, unsigned}
 
 -- ---- a marker at the beginning, or none
 

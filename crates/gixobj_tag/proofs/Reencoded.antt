@@ -16,7 +16,7 @@ use Rattle.gixobj_tag.specs.NameRule.{BeginsWithDash, HasNoFault, IsFirstFault, 
 use Rattle.gixobj_tag.specs.Rewriting.{AreNormalizedPartsOfTag, HasUnwritableTagger, IsCanonicalTagger, PreservesBody, IsNormalizedTagError, canonical_tagger, no_tagger}
 use Rattle.gixobj_tag.specs.TagOwned.{IsOwnedFormOfTag, IsOwnedTagger}
 use Rattle.gixobj_tag.specs.TagFormat.{DecodesToTag, TagLines, encode_tag_lines}
-use Rattle.gixobj_line.specs.TagBodies.{IsBody, IsParted, are_newlines, after_a_newline, newlines_alone, signed, signed_at_once, unsigned}
+use Rattle.gixobj_grammar.specs.TagBodies.{IsBody, IsParted, are_newlines, after_a_newline, newlines_alone, signed, signed_at_once, unsigned}
 use Rattle.gixobj_tag.specs.TagViews.{owned_tag_lines, owned_tagger}
 use Rattle.gixobj_tag.specs.TagWriting.{IsTagLinesError, IsOwnedTagError, IsNameValueError, IsTaggerError, encode_body, encode_message, encode_tag}
 use Rattle.gixobj_tag.specs.declared.tag.Tag.{Tag}

@@ -1,7 +1,7 @@
 -- Lemmas on signed tags and their payloads.
 use Rattle.std.proofs.Common.{◌≡◌, ◌∙◌, ap, inl, inr, subst, sym, refl, IfErr, IfOk, List, [], ◌∷◌, ◌++◌, ℕ, Some, Result, Ok, Err}
 use Rattle.gixobj_streams.specs.Writing.{RejectsNothing}
-use Rattle.gixobj_report.specs.Calls.{Answer, CallView}
+use Rattle.gixobj_signature_reports.specs.Calls.{Answer, CallView}
 use Rattle.gixobj_signature.specs.Plans.{CarriesOut, IsCarriedOut}
 use Rattle.gixobj_signature.specs.Signing.{sign_options_view, sign_plan, signature, signer_error}
 use Rattle.gixobj_signature.specs.declared.signature.sign.Error.{Error}

@@ -8,10 +8,10 @@ pub mod TagFormat
 pub mod TagViews
 pub mod TagWriting
 pub use Rattle.gixobj_actor.specs.Actor
-pub use Rattle.gixobj_fields.specs.HeaderReading
+pub use Rattle.gixobj_parse.specs.HeaderReading
 pub use Rattle.gixobj_hash.specs.HeaderFormat
 pub use Rattle.gixobj_hash.specs.FieldFormat
 pub use Rattle.gixobj_hash.specs.Runs
 pub use Rattle.gixobj_hash.specs.Hash
 pub use Rattle.gixobj_hash.specs.Kind
-pub use Rattle.gixobj_line.specs.TagPrefix
+pub use Rattle.gixobj_grammar.specs.TagPrefix

@@ -7,7 +7,7 @@ use Rattle.gixobj_streams.specs.declared.encode.Error.{Error}
 use Rattle.gixobj_streams.specs.declared.encode.Error.TheVariants as error
 use Rattle.gixobj_tag.specs.NameRule.{BeginsWithDash, HasNoFault, IsFirstFault}
 use Rattle.gixobj_tag.specs.TagFormat.{TagLines}
-use Rattle.gixobj_line.specs.TagBodies.{are_newlines}
+use Rattle.gixobj_grammar.specs.TagBodies.{are_newlines}
 
 -- the tag is encoded as it was decoded: it is unsigned, or its message isn't newlines alone
 abbrev pub PreservesBody : TagLines → Type 0

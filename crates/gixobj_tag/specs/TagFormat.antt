@@ -4,8 +4,8 @@ use Rattle.gixobj_hash.specs.FieldFormat.{encode_field}
 use Rattle.gixobj_hash.specs.Hash.Hex.{IsIdHexOfKind}
 use Rattle.gixobj_hash.specs.declared.hash.kind.Kind as hash
 use Rattle.gixobj_hash.specs.declared.kind.Kind.{Kind}
-pub use Rattle.gixobj_line.specs.TagPrefix.{IsLineName, IsTaggerLine, encode_tagger, encode_target_lines}
-use Rattle.gixobj_line.specs.TagBodies.{IsBody}
+pub use Rattle.gixobj_grammar.specs.TagPrefix.{IsLineName, IsTaggerLine, encode_tagger, encode_target_lines}
+use Rattle.gixobj_grammar.specs.TagBodies.{IsBody}
 
 -- the fields of an encoded tag: an id in hex, a kind, a name, the value of a tagger line, a message, a signature
 pub record TagLines : Type 0 where

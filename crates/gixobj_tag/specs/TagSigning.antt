@@ -3,7 +3,7 @@ use Rattle.std.specs.Prelude.{◌≡◌, ◌⊎◌, ℕ, List, [], ◌∷◌, �
 use Rattle.gixobj_streams.specs.Writing.{IsEncodingError, RejectsNothing}
 use Rattle.gixobj_streams.specs.declared.encode.Error as encode
 use Rattle.gixobj_hash.specs.declared.decode.Error as decode
-use Rattle.gixobj_report.specs.Calls.{Answer, CallView}
+use Rattle.gixobj_signature_reports.specs.Calls.{Answer, CallView}
 use Rattle.gixobj_signature.specs.Plans.{CarriesOut, IsCarriedOut}
 use Rattle.gixobj_signature.specs.Signing.{sign_options_view, sign_plan, signature, signer_error}
 use Rattle.gixobj_signature.specs.declared.signature.sign.Error.{Error}

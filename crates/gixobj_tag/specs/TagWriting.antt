@@ -10,7 +10,7 @@ use Rattle.gixobj_hash.specs.Kind.{kind_name}
 use Rattle.gixobj_hash.specs.declared.kind.Kind.{Kind}
 use Rattle.gixobj_tag.specs.NameRule.{BeginsWithDash, HasNoFault, IsFirstFault, IsTagName}
 use Rattle.gixobj_tag.specs.TagFormat.{TagLines, encode_tag_lines, encode_target}
-use Rattle.gixobj_line.specs.TagBodies.{are_newlines}
+use Rattle.gixobj_grammar.specs.TagBodies.{are_newlines}
 use Rattle.gixobj_tag.specs.TagViews.{owned_tag_lines}
 use Rattle.gixobj_tag.specs.declared.tag.Tag.{Tag}
 use Rattle.gixobj_hash.specs.Bytes.{newline}

@@ -16,13 +16,13 @@ pub mod write;
 use bstr::{BStr, BString};
 use gixobj_actor::actor::{Signature, SignatureRef};
 use gixobj_actor::parse::trimmed_actor;
-use gixobj_fields::signature;
-use gixobj_fields::signature::Format;
 use gixobj_hash::Kind;
 use gixobj_hash::decode::Error;
 use gixobj_hash::hash::ObjectId;
 use gixobj_hash::optional::borrowed;
 use gixobj_hash::parse::id_of_hex;
+use gixobj_parse::signature;
+use gixobj_parse::signature::Format;
 use std::alloc::Global;
 
 /// A borrowed tag, with its fields as they are encoded. [`TagRef::from_bytes`] decodes one.

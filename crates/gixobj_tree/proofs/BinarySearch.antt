@@ -7,13 +7,13 @@ use Rattle.std.specs.List.{HoldsAt}
 use Rattle.std.specs.List.Sorted.{IsBinarySearchResult, IsNonDecreasingBy, IsSearchInRange}
 use Rattle.std.specs.Ordering.{nat_cmp, ordering_index}
 use Rattle.gixobj_hash.specs.ByteStrings.{IsByteFree}
-use Rattle.gixobj_entries.proofs.NameKeys.{name_cmp_eq_key_cmp}
+use Rattle.gixobj_tree_entries.proofs.NameKeys.{name_cmp_eq_key_cmp}
 use Rattle.gixobj_tree.proofs.WellFormed.{has_key_of_test}
-use Rattle.gixobj_entries.proofs.TiedBytes.{eq_of_slice_cmp_equal}
-use Rattle.gixobj_entries.specs.Entries.{EntryView}
-use Rattle.gixobj_entries.specs.KeyOrder.{entry_key, key_of, name_cmp}
+use Rattle.gixobj_tree_entries.proofs.TiedBytes.{eq_of_slice_cmp_equal}
+use Rattle.gixobj_tree_entries.specs.Entries.{EntryView}
+use Rattle.gixobj_tree_entries.specs.KeyOrder.{entry_key, key_of, name_cmp}
 use Rattle.gixobj_tree.specs.WellFormed.{HasKey, IsEntryName, IsWellFormed}
-use Rattle.gixobj_entries.specs.Mode.{is_tree_mode}
+use Rattle.gixobj_tree_entries.specs.Mode.{is_tree_mode}
 
 module _ {X Y : Type 0} (view : X → Y) (cmp : X → Ordering) (R : Y → Ordering) where
   -- the comparisons are those of the views

@@ -1,4 +1,4 @@
--- Each input begins with an entry or with none, and all bytes are a tree or malformed; used by `gixobj_directories`.
+-- Each input begins with an entry or with none, and all bytes are a tree or malformed; used by `gixobj_editor_lookups`.
 use Rattle.std.proofs.Common.{◌≡◌, ◌≢◌, ◌≤◌, ◌⊎◌, inl, inr, ⊎_elim, ℕ, zero, suc, List, [], ◌∷◌, ◌++◌, ap, arith, drop, length, take, refl, subst, sym, ◌∙◌}
 use Rattle.std.proofs.lemmas.Bool.{cases_eq, cases_lt}
 use Rattle.std.proofs.lemmas.List.{length-take-le, take-append-drop}
@@ -12,12 +12,12 @@ use Rattle.gixobj_hash.specs.declared.hash.kind.Kind.{Kind}
 use Rattle.gixobj_hash.specs.declared.hash.kind.Kind.TheVariants as hash
 use Rattle.gixobj_hash.proofs.Splits.{no_split_of_byte_free, split_parts_unique}
 use Rattle.gixobj_hash.specs.ByteStrings.{IsByteFree, SplitsAt}
-use Rattle.gixobj_entries.proofs.EncodedModes.{octal_digits_space_free}
-use Rattle.gixobj_entries.specs.Entries.{EntryView, entry_of}
-use Rattle.gixobj_entries.specs.Mode.{BeginsWithMode, ObeysByteSix, mode_of_digits}
-use Rattle.gixobj_entries.proofs.EntryRuns.{entry_run_unique, decodes_to_tree_of_run, yields_entries_iff}
-use Rattle.gixobj_entries.proofs.OneEntry.{Parted, entry_of_parts, no_entry_without_id, no_entry_without_name, parted_of_begins, entry_rest_len_lt}
-use Rattle.gixobj_entries.specs.TreeDecoding.{BeginsWithEntry, BeginsWithId, BeginsWithNoEntry, IsMalformedTree, DecodesToTree, YieldsEntries}
+use Rattle.gixobj_tree_entries.proofs.EncodedModes.{octal_digits_space_free}
+use Rattle.gixobj_tree_entries.specs.Entries.{EntryView, entry_of}
+use Rattle.gixobj_tree_entries.specs.Mode.{BeginsWithMode, ObeysByteSix, mode_of_digits}
+use Rattle.gixobj_tree_entries.proofs.EntryRuns.{entry_run_unique, decodes_to_tree_of_run, yields_entries_iff}
+use Rattle.gixobj_tree_entries.proofs.OneEntry.{Parted, entry_of_parts, no_entry_without_id, no_entry_without_name, parted_of_begins, entry_rest_len_lt}
+use Rattle.gixobj_tree_entries.specs.TreeDecoding.{BeginsWithEntry, BeginsWithId, BeginsWithNoEntry, IsMalformedTree, DecodesToTree, YieldsEntries}
 
 -- ---- the parts of an entry
 

@@ -4,7 +4,7 @@ use Rattle.std.specs.Prelude.{Contains}
 use Rattle.std.proofs.lemmas.List.{append-nil, take_all, take_more, take-append-drop, drop_more}
 use Rattle.std.proofs.lemmas.List.Elements.{All-contains, All-head, All-push, All-tail, Contains-append_right, Contains-get_or}
 use Rattle.std.proofs.lemmas.List.Concat.{flat_map-append}
-use Rattle.gixobj_entries.specs.Entries.{EntryView}
+use Rattle.gixobj_tree_entries.specs.Entries.{EntryView}
 use Rattle.gixobj_hash.specs.ByteStrings.{IsByteFree}
 use Rattle.gixobj_tree.specs.TreeEncoding.{IsEntryEncodeError, IsTreeEncodeError, before_name, encode_entry, encode_tree}
 use Rattle.gixobj_tree.specs.TreeSizes.{encode_mode_and_name, with_ids}
@@ -14,7 +14,7 @@ use Rattle.gixobj_streams.specs.Writing.{IsWritingError, LacksRoom, RejectedValu
 use Rattle.gixobj_streams.specs.declared.encode.Error.{Error}
 use Rattle.gixobj_streams.specs.declared.encode.Error.TheVariants.{OutOfMemory}
 use Rattle.gixobj_hash.specs.Hash.{id_bytes}
-use Rattle.gixobj_entries.specs.Mode.{encode_mode}
+use Rattle.gixobj_tree_entries.specs.Mode.{encode_mode}
 use Rattle.gixobj_streams.proofs.Appends.{appends_prefix_first, appends_prefix_append, appends_all_append}
 use Rattle.gixobj_streams.proofs.Errors.{lacks_room_after, writing_error_within}
 

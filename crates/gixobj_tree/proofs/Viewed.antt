@@ -5,9 +5,9 @@ use Rattle.std.specs.Cmp.Derive.Mapped.{pointwise-map}
 use Rattle.std.specs.Cmp.Lexicographic.{pointwise, slice_cmp}
 use Rattle.std.specs.Ordering.{on, ordering_then}
 use Rattle.std.specs.declared.cmp.Ordering.{Ordering}
-use Rattle.gixobj_entries.specs.EntryOrder.{same_entry, same_tree}
-use Rattle.gixobj_entries.specs.EntryViews.{entry_view}
-use Rattle.gixobj_entries.specs.declared.entry_ref.EntryRef.{EntryRef}
+use Rattle.gixobj_tree_entries.specs.EntryOrder.{same_entry, same_tree}
+use Rattle.gixobj_tree_entries.specs.EntryViews.{entry_view}
+use Rattle.gixobj_tree_entries.specs.declared.entry_ref.EntryRef.{EntryRef}
 
 pub slice_cmp_map_view : {X Y : Type 0} (view : X → Y) (R : Y → Y → Ordering) (xs ys : List X) → slice_cmp (on view R) xs ys ≡ slice_cmp R (map view xs)
     (map view ys)

@@ -11,11 +11,11 @@ use Rattle.std.proofs.lemmas.Bool.Decides.{leb_tells}
 use Rattle.std.proofs.lemmas.Cmp.{nat_list_cmp_total}
 use Rattle.std.proofs.lemmas.List.Elements.{All-contains, All-from_recursion, All-weaker, at_from_Contains, Contains-get_or, Contains-push, recursion_from_All}
 use Rattle.std.proofs.lemmas.List.Sorted.{searchable_from_sorted}
-use Rattle.gixobj_entries.proofs.TiedBytes.{eq_of_slice_cmp_equal, slice_cmp_equal_of_eq}
-use Rattle.gixobj_entries.specs.Entries.{EntryView}
-use Rattle.gixobj_entries.specs.KeyOrder.{ComesBefore, entry_key, key_of}
+use Rattle.gixobj_tree_entries.proofs.TiedBytes.{eq_of_slice_cmp_equal, slice_cmp_equal_of_eq}
+use Rattle.gixobj_tree_entries.specs.Entries.{EntryView}
+use Rattle.gixobj_tree_entries.specs.KeyOrder.{ComesBefore, entry_key, key_of}
 use Rattle.gixobj_tree.specs.WellFormed.{AreApart, EachLater, HasKey, HasNamesake, HaveEntryNames, IsEntryName}
-use Rattle.gixobj_entries.specs.Mode.{is_tree_mode}
+use Rattle.gixobj_tree_entries.specs.Mode.{is_tree_mode}
 use Rattle.gixobj_hash.specs.ByteStrings.{IsByteFree}
 
 module _ {X : Type 0} (R : X → X → Type 0) where

@@ -7,15 +7,15 @@ use Rattle.gixobj_streams.specs.Writing.{RejectsNothing}
 use Rattle.gixobj_hash.specs.Hash.{id_bytes}
 use Rattle.gixobj_hash.specs.declared.hash.kind.Kind.{Kind}
 use Rattle.gixobj_hash.specs.ByteStrings.{IsByteFree}
-use Rattle.gixobj_entries.proofs.ByteSix.{encode_mode_has_six_digits}
-use Rattle.gixobj_entries.proofs.ModesRoundTrip.{mode_round_trips}
+use Rattle.gixobj_tree_entries.proofs.ByteSix.{encode_mode_has_six_digits}
+use Rattle.gixobj_tree_entries.proofs.ModesRoundTrip.{mode_round_trips}
 use Rattle.gixobj_tree.proofs.TreeWrites.{AreFree, no_error_of_written_tree, encode_tree_take_succ}
-use Rattle.gixobj_entries.specs.Entries.{EntryView}
-use Rattle.gixobj_entries.specs.Mode.{ObeysByteSix, encode_mode}
+use Rattle.gixobj_tree_entries.specs.Entries.{EntryView}
+use Rattle.gixobj_tree_entries.specs.Mode.{ObeysByteSix, encode_mode}
 use Rattle.gixobj_tree.specs.TreeEncoding.{IsTreeEncodeError, encode_entry, encode_tree}
 use Rattle.gixobj_tree.proofs.Viewed.{map_view_at, map_view_index_lt}
 use Rattle.gixobj_tree.specs.Rewriting.{HasCanonicalModes, DecodesToCanonicalEntry, RoundTrips}
-use Rattle.gixobj_entries.specs.TreeDecoding.{DecodesToEntry, DecodesToTree}
+use Rattle.gixobj_tree_entries.specs.TreeDecoding.{DecodesToEntry, DecodesToTree}
 
 -- the size with the next entry is that of one more entry
 pub encode_tree_len_take_succ : {X : Type 0} (view : X → EntryView) (xs : List X) (i : ℕ) (x : X) (n m : ℕ) → i < length xs → x ≡ get_or xs i x

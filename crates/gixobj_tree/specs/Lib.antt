@@ -3,10 +3,10 @@ pub mod TreeEncoding
 pub mod TreeSizes
 pub mod TreeViews
 pub mod WellFormed
-pub use Rattle.gixobj_entries.specs.Entries
-pub use Rattle.gixobj_entries.specs.EntryOrder
-pub use Rattle.gixobj_entries.specs.KeyOrder
-pub use Rattle.gixobj_entries.specs.TreeDecoding
+pub use Rattle.gixobj_tree_entries.specs.Entries
+pub use Rattle.gixobj_tree_entries.specs.EntryOrder
+pub use Rattle.gixobj_tree_entries.specs.KeyOrder
+pub use Rattle.gixobj_tree_entries.specs.TreeDecoding
 pub use Rattle.gixobj_hash.specs.Runs
 pub use Rattle.gixobj_streams.specs.Streams
 pub use Rattle.gixobj_streams.specs.Writing

@@ -3,9 +3,9 @@ use Rattle.std.specs.Prelude.{◌≡◌, ◌<◌, ◌+◌, ◌^◌, ℕ, List}
 use Rattle.std.specs.List.{AllZip, concat}
 use Rattle.gixobj_hash.specs.declared.hash.kind.Kind.{Kind}
 use Rattle.gixobj_hash.specs.ByteStrings.{IsByteFree}
-use Rattle.gixobj_entries.specs.Entries.{EntryView}
-use Rattle.gixobj_entries.specs.Mode.{encode_mode, old_tree_type}
-use Rattle.gixobj_entries.specs.TreeDecoding.{DecodesToEntry, IsIdOf}
+use Rattle.gixobj_tree_entries.specs.Entries.{EntryView}
+use Rattle.gixobj_tree_entries.specs.Mode.{encode_mode, old_tree_type}
+use Rattle.gixobj_tree_entries.specs.TreeDecoding.{DecodesToEntry, IsIdOf}
 
 -- the bytes decode to the entry, and the digits of its mode are those that the encoder writes
 pub record DecodesToCanonicalEntry (kind : Kind) (e : EntryView) (bytes : List ℕ) : Type 0 where

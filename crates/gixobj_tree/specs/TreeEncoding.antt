@@ -1,12 +1,12 @@
 -- Encoding of trees (gitdatamodel, "trees"; git-mktree reads the same entries as lines).
 use Rattle.std.specs.Prelude.{◌≡◌, ℕ, List, [], ◌∷◌, ◌++◌, All, Contains, Err, Ok, Result}
 use Rattle.std.specs.List.{flat_map}
-use Rattle.gixobj_entries.specs.Entries.{EntryView}
+use Rattle.gixobj_tree_entries.specs.Entries.{EntryView}
 use Rattle.gixobj_hash.specs.Hash.{id_bytes, id_of}
 use Rattle.gixobj_hash.specs.declared.hash.kind.Kind as hash
 use Rattle.gixobj_hash.specs.declared.hash.object_id.ObjectId.{ObjectId}
 use Rattle.gixobj_hash.specs.declared.kind.Kind.TheVariants.{Tree}
-use Rattle.gixobj_entries.specs.Mode.{encode_mode}
+use Rattle.gixobj_tree_entries.specs.Mode.{encode_mode}
 use Rattle.gixobj_hash.specs.ByteStrings.{IsByteFree}
 use Rattle.gixobj_streams.specs.Writing.{IsEncodingError, RejectedValue, RejectsNothing, name_with_zero_byte}
 use Rattle.gixobj_streams.specs.declared.encode.Error.{Error}

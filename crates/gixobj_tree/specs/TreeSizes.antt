@@ -1,7 +1,7 @@
 -- The size of the encoding of a tree.
 use Rattle.std.specs.Prelude.{◌+◌, ◌*◌, ℕ, List, ◌++◌}
-use Rattle.gixobj_entries.specs.Entries.{EntryView}
-use Rattle.gixobj_entries.specs.Mode.{encode_mode}
+use Rattle.gixobj_tree_entries.specs.Entries.{EntryView}
+use Rattle.gixobj_tree_entries.specs.Mode.{encode_mode}
 
 -- the mode and the name of an entry, without the space, the zero byte and the id
 abbrev pub encode_mode_and_name : EntryView → List ℕ

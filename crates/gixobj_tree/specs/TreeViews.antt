@@ -1,7 +1,7 @@
 -- The view of a borrowed tree, and that of its entries.
 use Rattle.std.specs.Prelude.{List, map}
-use Rattle.gixobj_entries.specs.Entries.{EntryView}
-pub use Rattle.gixobj_entries.specs.EntryViews.{entry_view}
+use Rattle.gixobj_tree_entries.specs.Entries.{EntryView}
+pub use Rattle.gixobj_tree_entries.specs.EntryViews.{entry_view}
 use Rattle.gixobj_tree.specs.declared.tree.borrowed.TreeRef.{TreeRef}
 
 -- the view of a borrowed tree: its entries

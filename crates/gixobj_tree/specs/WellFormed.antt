@@ -3,10 +3,10 @@
 -- well-formed here.
 use Rattle.std.specs.Prelude.{◌≡◌, ◌≢◌, ℕ, List, [], All, Contains, IsTrue}
 use Rattle.std.specs.List.{AllByRecursion}
-use Rattle.gixobj_entries.specs.Entries.{EntryView}
-use Rattle.gixobj_entries.specs.KeyOrder.{ComesBefore, entry_key}
-pub use Rattle.gixobj_entries.specs.KeyOrder.{EachLater}
-use Rattle.gixobj_entries.specs.Mode.{is_tree_mode}
+use Rattle.gixobj_tree_entries.specs.Entries.{EntryView}
+use Rattle.gixobj_tree_entries.specs.KeyOrder.{ComesBefore, entry_key}
+pub use Rattle.gixobj_tree_entries.specs.KeyOrder.{EachLater}
+use Rattle.gixobj_tree_entries.specs.Mode.{is_tree_mode}
 use Rattle.gixobj_hash.specs.ByteStrings.{IsByteFree}
 use Rattle.gixobj_hash.specs.Bytes.{slash}
 

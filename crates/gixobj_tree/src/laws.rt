@@ -3,5 +3,5 @@
 
 mod trees;
 
-pub use gixobj_entries::laws::mode_round_trips;
+pub use gixobj_tree_entries::laws::mode_round_trips;
 pub use trees::{tree_decodes_uniquely, tree_reencodes_identically, tree_round_trips};

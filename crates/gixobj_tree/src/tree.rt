@@ -7,7 +7,7 @@ mod well_formed;
 pub mod write;
 
 pub use borrowed::{TreeRef, decode};
-pub use gixobj_entries::{Entry, EntryKind, EntryMode, EntryRef, name_order, order};
+pub use gixobj_tree_entries::{Entry, EntryKind, EntryMode, EntryRef, name_order, order};
 use std::alloc::Global;
 use std::marker::Model;
 
@@ -21,7 +21,7 @@ pub struct Tree {
 
 impl Model for Tree {
     ghost use Rattle.std.specs.Prelude.{List};
-    ghost use Rattle.gixobj_entries.specs.Entries.{EntryView};
+    ghost use Rattle.gixobj_tree_entries.specs.Entries.{EntryView};
 
     ghost Value = { List EntryView };
 

@@ -6,7 +6,7 @@ use bstr::BString;
 use gixobj_base::Kind;
 use gixobj_base::hash::Kind::Sha1;
 use gixobj_codec::{CommitRefIter, TagRefIter};
-use gixobj_fields::signature::Format;
+use gixobj_parse::signature::Format;
 use gixobj_signature::signature::verify::{
     Outcome, TrustLevel, parse_gpg_output, parse_ssh_output,
 };

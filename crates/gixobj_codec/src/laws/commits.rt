@@ -8,7 +8,7 @@ ghost use Rattle.gixobj_streams.specs.Writing.{FailsAsSink, RejectsNothing, IsWr
 ghost use Rattle.gixobj_streams.specs.declared.encode.Error.{Error};
 ghost use Rattle.gixobj_hash.specs.declared.decode.Error.TheVariants.{Malformed};
 ghost use Rattle.gixobj_hash.specs.declared.hash.kind.Kind.{Kind};
-ghost use Rattle.gixobj_line.specs.Commit.{CommitLines, DecodesToCommit};
+ghost use Rattle.gixobj_grammar.specs.Commit.{CommitLines, DecodesToCommit};
 ghost use Rattle.gixobj_commit.specs.CommitOwned.{IsOwnedFormOfCommit, IsIntoOwnedCommitError};
 ghost use Rattle.gixobj_commit.specs.CommitViews.{commit_lines, owned_commit_lines};
 ghost use Rattle.gixobj_commit.specs.CommitWriting.{HasIds, IsCommitLinesError, IsOwnedCommitError, encode_commit, in_lower_case};

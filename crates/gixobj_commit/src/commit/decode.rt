@@ -3,15 +3,15 @@ ghost use Rattle.std.specs.Prelude.{◌≡◌, ◌≤◌, [], IfErr, IfOk, OnOk}
 ghost use Rattle.gixobj_commit.specs.CommitViews.{BorrowsOneLineValues, commit_lines};
 ghost use Rattle.gixobj_commit.specs.CommitWriting.{HasIds};
 ghost use Rattle.gixobj_hash.specs.declared.decode.Error.TheVariants.{OutOfMemory};
-ghost use Rattle.gixobj_line.specs.Commit.{DecodesToCommit, IsCommitDecodeError};
-ghost use Rattle.gixobj_line.specs.CommitBuilding.{Allocates, gather, empty_commit};
-ghost use Rattle.gixobj_line.specs.Lines.{IsParsedLine, line_view};
+ghost use Rattle.gixobj_grammar.specs.Commit.{DecodesToCommit, IsCommitDecodeError};
+ghost use Rattle.gixobj_grammar.specs.CommitBuilding.{Allocates, gather, empty_commit};
+ghost use Rattle.gixobj_grammar.specs.Lines.{IsParsedLine, line_view};
 
 use super::CommitRef;
 use bstr::BStr;
+use gixobj_grammar::lines::{Line, State, decode_line};
 use gixobj_hash::decode::Error;
 use gixobj_hash::hash::Kind;
-use gixobj_line::lines::{Line, State, decode_line};
 use smallvec::SmallVec;
 use std::alloc::Global;
 

@@ -4,7 +4,7 @@ ghost use Rattle.bstr.specs.BStr.{bstr_bytes};
 ghost use Rattle.gixobj_actor.specs.Actor.{IsActorOf, IsOwnedActor, actor_view};
 ghost use Rattle.std.specs.List.{AllZip};
 ghost use Rattle.gixobj_hash.specs.Hash.{IsIdHex, DecodesToId};
-ghost use Rattle.gixobj_fields.specs.HeaderReading.{header_of, owned_header_of};
+ghost use Rattle.gixobj_parse.specs.HeaderReading.{header_of, owned_header_of};
 ghost use Rattle.gixobj_commit.specs.CommitOwned.{IsOwnedFormOfCommit};
 ghost use Rattle.gixobj_commit.specs.CommitViews.{commit_lines};
 ghost use Rattle.gixobj_hash.specs.Optional.{bytes_if_some, owned_bytes_if_some};

@@ -4,7 +4,7 @@ ghost use Rattle.bstr.specs.Owned.{bstring_bytes};
 ghost use Rattle.gixobj_commit.specs.CommitSigning.{GetsCommitSignature, IsSignedCommit, IsSignedCommitCopy, IsCommitSigningError, IsCommitCopySigningError, IsCommitEncodingError, is_header_named, with_last_header, without_headers};
 ghost use Rattle.gixobj_commit.specs.CommitViews.{commit_lines, owned_commit_lines};
 ghost use Rattle.gixobj_commit.specs.CommitWriting.{HasIds, IsOwnedCommitError, encode_commit};
-ghost use Rattle.gixobj_fields.specs.HeaderReading.{owned_header_of};
+ghost use Rattle.gixobj_parse.specs.HeaderReading.{owned_header_of};
 ghost use Rattle.gixobj_streams.specs.Writing.{RejectsNothing};
 ghost use Rattle.gixobj_signature.specs.Plans.{IsCarriedOut};
 ghost use Rattle.gixobj_signature.specs.Signing.{sign_options_view, sign_plan, signer_error};

@@ -7,7 +7,7 @@ ghost use Rattle.gixobj_hash.specs.Hash.{IsIdHex, encode_id_hex};
 ghost use Rattle.gixobj_hash.specs.FieldFormat.{encode_field};
 ghost use Rattle.gixobj_streams.specs.Streams.{AppendsAll, AppendsOrFails};
 ghost use Rattle.gixobj_streams.specs.Writing.{AddsSize, IsSize, IsWritingError, LacksRoom, RejectsNothing};
-ghost use Rattle.gixobj_line.specs.Commit.{encode_encoding};
+ghost use Rattle.gixobj_grammar.specs.Commit.{encode_encoding};
 ghost use Rattle.gixobj_hash.specs.Optional.{bytes_if_some};
 ghost use Rattle.gixobj_commit.specs.CommitWriting.{IsEncodingLineError, hex_lines, hex_tree};
 ghost use Rattle.gixobj_hash.specs.Bytes.{newline};
@@ -185,7 +185,7 @@ impl Field for BStr<'_> {
 /// A parent, by its id.
 impl Field for ObjectId {
     ghost use Rattle.gixobj_hash.specs.Hash.{encode_id_hex};
-    ghost use Rattle.gixobj_line.specs.Commit.{encode_parent};
+    ghost use Rattle.gixobj_grammar.specs.Commit.{encode_parent};
 
     ghost written = { λ id. encode_parent (encode_id_hex id) };
 
@@ -200,7 +200,7 @@ impl Field for ObjectId {
 
 /// An extra header, borrowed.
 impl Field for (BStr<'_>, CowSlice<'_, u8>) {
-    ghost use Rattle.gixobj_fields.specs.HeaderReading.{header_of};
+    ghost use Rattle.gixobj_parse.specs.HeaderReading.{header_of};
     ghost use Rattle.gixobj_encode.specs.FieldWriting.{encode_header};
 
     ghost written = { λ header. encode_header (header_of header) };
@@ -216,7 +216,7 @@ impl Field for (BStr<'_>, CowSlice<'_, u8>) {
 
 /// An extra header, owned.
 impl Field for (BString, BString) {
-    ghost use Rattle.gixobj_fields.specs.HeaderReading.{owned_header_of};
+    ghost use Rattle.gixobj_parse.specs.HeaderReading.{owned_header_of};
     ghost use Rattle.gixobj_encode.specs.FieldWriting.{encode_header};
 
     ghost written = { λ header. encode_header (owned_header_of header) };

@@ -1,5 +1,5 @@
 -- The store of a cursor's editor.
-use Rattle.gixobj_files.specs.State.{with_store}
+use Rattle.gixobj_editor_files.specs.State.{with_store}
 use Rattle.gixobj_editor.specs.declared.editor.cursor.Cursor.{Cursor}
 use denote.Ref.{at_last}
 

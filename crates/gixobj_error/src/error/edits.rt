@@ -6,8 +6,8 @@ ghost use Rattle.gixobj_error.specs.Writes.{error_of_write};
 use super::Error;
 use gixobj_editor::editor::{self, WriteError};
 use gixobj_encode::encode;
-use gixobj_find::write;
-use gixobj_import::{ImportError, Stopped};
+use gixobj_store_find::write;
+use gixobj_editor_import::{ImportError, Stopped};
 
 impl From<editor::Error> for Error {
     ghost from_gives = { λ cause error. error ≡ tool.Edit cause };

@@ -3,9 +3,9 @@ ghost use Rattle.std.specs.Prelude.{◌≡◌};
 ghost use Rattle.gixobj_error.specs.declared.error.Error.TheVariants as tool;
 
 use super::Error;
-use gixobj_find::find::{self, existing, existing_iter, existing_object};
-use gixobj_find::write;
-use gixobj_keep::KeepError;
+use gixobj_store_find::find::{self, existing, existing_iter, existing_object};
+use gixobj_store_find::write;
+use gixobj_store_keep::KeepError;
 
 impl From<find::Error> for Error {
     ghost from_gives = { λ cause error. error ≡ tool.Find cause };

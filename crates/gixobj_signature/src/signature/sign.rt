@@ -2,7 +2,7 @@
 ghost use Rattle.std.specs.Prelude.{◌≡◌, Err, IfOk, MatchOption, ⊤};
 ghost use Rattle.std.specs.Option.{option_map};
 ghost use Rattle.bstr.specs.Owned.{bstring_bytes};
-ghost use Rattle.gixobj_report.specs.Calls.{answer_view, output_view};
+ghost use Rattle.gixobj_signature_reports.specs.Calls.{answer_view, output_view};
 ghost use Rattle.gixobj_signature.specs.Plans.{AllocatesForCalls};
 ghost use Rattle.gixobj_signature.specs.Signing.{IsFailed, Signs, confirms, gpg_plan, gpg_signed, is_return_before, written_signature, literal_key, not_run_view, sign_options_view, sign_plan, sign_view, signer_error, ssh_plan, ssh_signed, without_returns};
 
@@ -11,8 +11,8 @@ mod calls;
 use crate::signature::{Output, RunError, Runner};
 use bstr::{BString, ByteSlice};
 use calls::{gpg_call_of, ssh_call_of};
-use gixobj_fields::signature::Format;
 use gixobj_hash::{OutOfMemory, decode};
+use gixobj_parse::signature::Format;
 use gixobj_streams::encode;
 use std::alloc::Global;
 

@@ -4,7 +4,7 @@ ghost use Rattle.gixobj_signature.specs.SignedBytes.{signed_bytes};
 ghost use Rattle.gixobj_signature.specs.Verifiers.{by_open_pgp, by_ssh, by_x509, verify_options_view, program_of, ssh_of, ssh_program_of, verifier_view};
 ghost use Rattle.gixobj_signature.specs.Plans.{AllocatesForCalls};
 ghost use Rattle.gixobj_signature.specs.Verifying.{WasCalled, IsOutcomeOf, Verifies, verify_plan, verify_view};
-ghost use Rattle.gixobj_report.specs.Calls.{call_view};
+ghost use Rattle.gixobj_signature_reports.specs.Calls.{call_view};
 
 mod gpg;
 mod ssh;
@@ -12,9 +12,11 @@ mod ssh;
 use crate::signature::{Call, Output, RunError, Runner, SignedData};
 use bstr::{BStr, BString};
 use gixobj_actor::date::Time;
-use gixobj_fields::signature::Format;
 use gixobj_hash::OutOfMemory;
-pub use gixobj_report::report::{Outcome, Status, TrustLevel, parse_gpg_output, parse_ssh_output};
+use gixobj_parse::signature::Format;
+pub use gixobj_signature_reports::report::{
+    Outcome, Status, TrustLevel, parse_gpg_output, parse_ssh_output,
+};
 use gpg::{verify_open_pgp, verify_x509};
 use ssh::verify_if_ssh;
 use std::alloc::Global;

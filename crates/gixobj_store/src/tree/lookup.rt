@@ -8,7 +8,7 @@ ghost use Rattle.gixobj_store.specs.EntrySteps.{remaining_tree_bytes};
 ghost use Rattle.gixobj_store.specs.Lookups.{AreNamesOf, HasFirstNamed, HasNoEntryNamed, IsAtPath, IsStep, IsStepInBytes, Name, IsPathError, SplitsName, remaining_tree};
 ghost use Rattle.gixobj_store.specs.Stores.{stored};
 ghost use Rattle.gixobj_hash.specs.declared.kind.Kind.TheVariants as object;
-ghost use Rattle.gixobj_entries.specs.EntryViews.{entry_view};
+ghost use Rattle.gixobj_tree_entries.specs.EntryViews.{entry_view};
 
 use crate::data::Data;
 use crate::find::Error;

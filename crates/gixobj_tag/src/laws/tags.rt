@@ -5,7 +5,7 @@ ghost use Rattle.gixobj_streams.specs.Streams.{SinkView, list_view};
 ghost use Rattle.gixobj_streams.specs.Writing.{FailsAsSink, RejectsNothing, IsWritingError};
 ghost use Rattle.gixobj_streams.specs.declared.encode.Error as encode;
 ghost use Rattle.gixobj_hash.specs.declared.hash.kind.Kind.{Kind};
-ghost use Rattle.gixobj_line.specs.TagPrefix.{IsTag};
+ghost use Rattle.gixobj_grammar.specs.TagPrefix.{IsTag};
 ghost use Rattle.gixobj_tag.specs.NameRule.{IsTagName};
 ghost use Rattle.gixobj_tag.specs.Rewriting.{AreNormalizedPartsOfTag, PreservesBody, IsNormalizedTagError};
 ghost use Rattle.gixobj_tag.specs.TagOwned.{IsOwnedFormOfTag};

@@ -2,18 +2,18 @@
 ghost use Rattle.std.specs.Prelude.{◌≡◌, IfErr, IfNone, IfOk, IfSome};
 ghost use Rattle.gixobj_hash.specs.Hash.{IsIdHex};
 ghost use Rattle.gixobj_hash.specs.declared.decode.Error.TheVariants.{Malformed};
-ghost use Rattle.gixobj_line.specs.TagLineViews.{line_if_some};
+ghost use Rattle.gixobj_grammar.specs.TagLineViews.{line_if_some};
 ghost use Rattle.gixobj_tag.specs.TagFormat.{IsMalformedTag, DecodesToTag};
 ghost use Rattle.gixobj_tag.specs.TagViews.{tag_lines};
 ghost use Rattle.gixobj_hash.specs.Optional.{bytes_if_some};
 
 use super::TagRef;
 use bstr::BStr;
-use gixobj_fields::parse::{header_id, header_kind};
+use gixobj_grammar::bodies::body;
+use gixobj_grammar::tags::{TaggerLine, name, tagger};
 use gixobj_hash::decode::Error;
 use gixobj_hash::hash::Kind;
-use gixobj_line::bodies::body;
-use gixobj_line::tags::{TaggerLine, name, tagger};
+use gixobj_parse::parse::{header_id, header_kind};
 
 impl<'a> TagRef<'a> {
     /// Decodes a tag whose target has an id of this kind (gitdatamodel, "tag objects"). Allocates nothing.

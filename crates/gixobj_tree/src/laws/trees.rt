@@ -3,9 +3,9 @@
 ghost use Rattle.std.specs.Prelude.{◌≡◌, All, List, ℕ};
 ghost use Rattle.gixobj_streams.specs.Writing.{RejectsNothing};
 ghost use Rattle.gixobj_hash.specs.declared.hash.kind.Kind.{Kind};
-ghost use Rattle.gixobj_entries.specs.Entries.{EntryView};
+ghost use Rattle.gixobj_tree_entries.specs.Entries.{EntryView};
 ghost use Rattle.gixobj_tree.specs.TreeEncoding.{IsTreeEncodeError, encode_tree};
-ghost use Rattle.gixobj_entries.specs.TreeDecoding.{BeginsWithEntry, DecodesToTree};
+ghost use Rattle.gixobj_tree_entries.specs.TreeDecoding.{BeginsWithEntry, DecodesToTree};
 ghost use Rattle.gixobj_tree.specs.Rewriting.{HasCanonicalModes, RoundTrips};
 
 /// A tree decodes uniquely.

@@ -4,10 +4,10 @@ ghost use Rattle.std.specs.List.Sorted.{IsBinarySearchResult, IsSearchInRange};
 ghost use Rattle.std.specs.declared.cmp.Ordering.TheVariants.{Equal};
 ghost use Rattle.gixobj_hash.specs.Bytes.{slash};
 ghost use Rattle.gixobj_hash.specs.ByteStrings.{IsByteFree};
-ghost use Rattle.gixobj_entries.specs.KeyOrder.{entry_key, key_of, name_cmp};
+ghost use Rattle.gixobj_tree_entries.specs.KeyOrder.{entry_key, key_of, name_cmp};
 ghost use Rattle.gixobj_tree.specs.WellFormed.{HasKey, IsWellFormed};
-ghost use Rattle.gixobj_entries.specs.Mode.{is_tree_mode};
-ghost use Rattle.gixobj_entries.specs.EntryViews.{entry_view};
+ghost use Rattle.gixobj_tree_entries.specs.Mode.{is_tree_mode};
+ghost use Rattle.gixobj_tree_entries.specs.EntryViews.{entry_view};
 ghost use Rattle.gixobj_tree.specs.TreeViews.{tree_entries};
 ghost use Rattle.bstr.specs.BStr.{bstr_bytes};
 

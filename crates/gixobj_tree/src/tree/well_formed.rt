@@ -2,12 +2,12 @@
 ghost use Rattle.std.specs.Prelude.{◌≡◌, ◌↔◌, IsTrue};
 ghost use Rattle.std.specs.Cmp.Lexicographic.{slice_cmp};
 ghost use Rattle.std.specs.Ordering.{nat_cmp};
-ghost use Rattle.gixobj_entries.specs.KeyOrder.{ComesBefore, entry_key, key_of};
+ghost use Rattle.gixobj_tree_entries.specs.KeyOrder.{ComesBefore, entry_key, key_of};
 ghost use Rattle.gixobj_tree.specs.WellFormed.{AreApart, EachLater, HasKey, HasNamesake, HaveEntryNames, IsEntryName, IsWellFormed};
 
 use super::{Entry, Tree};
-use gixobj_entries::order::key_order;
 use gixobj_hash::split::has_byte;
+use gixobj_tree_entries::order::key_order;
 use std::cmp::Ordering;
 
 impl Tree {

@@ -2,7 +2,7 @@
 use Rattle.std.proofs.Common.{ap, arith, length, refl}
 use Rattle.gixobj_c.proofs.Lines.{header_fits, is_token_of_header}
 use Rattle.gixobj_c.proofs.commits.extra_header.Goals as goal
-use Rattle.gixobj_fields.specs.HeaderReading.{header_of}
+use Rattle.gixobj_parse.specs.HeaderReading.{header_of}
 
 pub overflow_sub-end : goal.overflow_sub-end
 overflow_sub-end c = let fits = header_fits c.args.commit.now c.args.offset (header_of c.args.field) c.args.rest.now c.requires in omega (arith, fits.1)

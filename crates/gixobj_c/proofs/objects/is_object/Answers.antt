@@ -3,7 +3,7 @@ use Rattle.std.proofs.Common.{ℕ, List, Bool, true, false}
 use Rattle.std.specs.Prelude.{MatchBool}
 use Rattle.gixobj_c.proofs.objects.is_object.Goals as goal
 use Rattle.gixobj_hash.specs.declared.hash.kind.Kind.{Kind}
-use Rattle.gixobj_line.specs.Commit.{IsCommit, IsMalformedCommit}
+use Rattle.gixobj_grammar.specs.Commit.{IsCommit, IsMalformedCommit}
 
 is_commit_or_not : (kind : Kind) (bytes : List ℕ) (result : Bool) → MatchBool result (IsCommit kind bytes) (IsMalformedCommit kind bytes)
     → MatchBool result (IsCommit kind bytes) (¬ IsCommit kind bytes)

@@ -2,8 +2,8 @@
 use Rattle.std.proofs.Common.{[], ◌∷◌, ◌++◌, rules}
 use Rattle.std.proofs.lemmas.Grind.{common_steps}
 use Rattle.gixobj_c.proofs.objects.is_tree.Goals as goal
-use Rattle.gixobj_entries.proofs.EntryRuns.{decodes_to_tree_at_end, malformed_tree_of_no_entry, begins_with_entries_nil, begins_with_entries_snoc}
-use Rattle.gixobj_entries.specs.EntryViews.{entry_view}
+use Rattle.gixobj_tree_entries.proofs.EntryRuns.{decodes_to_tree_at_end, malformed_tree_of_no_entry, begins_with_entries_nil, begins_with_entries_snoc}
+use Rattle.gixobj_tree_entries.specs.EntryViews.{entry_view}
 
 pub loop-rest-init : goal.loop-rest-init
 loop-rest-init c = ([], begins_with_entries_nil c.args.hash c.args.bytes.now)

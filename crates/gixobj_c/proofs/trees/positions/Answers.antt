@@ -2,7 +2,7 @@
 use Rattle.std.proofs.Common.{refl}
 use Rattle.gixobj_c.proofs.EntryParts.{id_before_rest, is_entry_at_of_spans, name_before_rest, rest_of_entry}
 use Rattle.gixobj_c.proofs.trees.positions.Goals as goal
-use Rattle.gixobj_entries.specs.EntryViews.{entry_view}
+use Rattle.gixobj_tree_entries.specs.EntryViews.{entry_view}
 
 pub span_before-name_span-requires : goal.span_before-name_span-requires
 span_before-name_span-requires c = name_before_rest _ _ _ _ (entry_view c.args.entry) _ _ _ _ c.requires.from c.requires.begins c.as_bytes-name.ensures

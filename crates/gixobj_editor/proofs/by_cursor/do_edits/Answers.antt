@@ -1,9 +1,9 @@
 use Rattle.std.proofs.Common.{length, List, arith, ap, refl, Result, subst, ◌∙◌}
 use Rattle.std.specs.Fn.{FnReturnsAt}
-use Rattle.gixobj_files.specs.Files.{Path}
+use Rattle.gixobj_editor_files.specs.Files.{Path}
 use Rattle.gixobj_hash.specs.declared.hash.object_id.ObjectId.{ObjectId}
 use Rattle.gixobj_store.specs.Stores.{StoreModel}
-use Rattle.gixobj_entries.specs.Entries.{EntryView}
+use Rattle.gixobj_tree_entries.specs.Entries.{EntryView}
 use Rattle.gixobj_editor.specs.Commands.{at_cursor}
 use Rattle.gixobj_editor.specs.Replies.{IsEditReply}
 use Rattle.gixobj_editor.proofs.Causes.{no_more_edit_causes, one_more_edit_cause}

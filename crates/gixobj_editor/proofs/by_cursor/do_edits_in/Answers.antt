@@ -1,16 +1,16 @@
 use Rattle.std.proofs.Common.{List, Result, inr, rules, ◌≡◌}
 use Rattle.std.specs.Fn.{FnReturnsAt}
-use Rattle.gixobj_open.specs.Paths.{names_of}
-use Rattle.gixobj_directories.specs.Openings.{OfTrees}
+use Rattle.gixobj_editor_open.specs.Paths.{names_of}
+use Rattle.gixobj_editor_lookups.specs.Openings.{OfTrees}
 use Rattle.gixobj_editor.specs.Causes.{HasCausesAt}
 use Rattle.gixobj_editor.specs.Cursors.{cursor_path}
 use Rattle.gixobj_editor.specs.Upserts.{IsNameError}
 use Rattle.gixobj_editor.specs.FailedEdits.{IsAfterFailedEdit}
-use Rattle.gixobj_files.specs.State.{State}
-use Rattle.gixobj_files.specs.Unopened.{with_empty_name}
+use Rattle.gixobj_editor_files.specs.State.{State}
+use Rattle.gixobj_editor_files.specs.Unopened.{with_empty_name}
 use Rattle.gixobj_hash.specs.declared.hash.object_id.ObjectId.{ObjectId}
 use Rattle.gixobj_store.specs.Stores.{StoreModel}
-use Rattle.gixobj_entries.specs.Entries.{EntryView}
+use Rattle.gixobj_tree_entries.specs.Entries.{EntryView}
 use Rattle.gixobj_editor.specs.Replies.{IsReplyAt}
 use Rattle.gixobj_editor.specs.declared.reply.Reply.TheVariants as reply
 use Rattle.gixobj_editor.proofs.Causes.{causes_at}

@@ -2,7 +2,7 @@ use Rattle.std.proofs.Common.{List, Result}
 use Rattle.std.specs.Fn.{FnReturnsAt}
 use Rattle.gixobj_hash.specs.declared.hash.object_id.ObjectId.{ObjectId}
 use Rattle.gixobj_store.specs.Stores.{StoreModel}
-use Rattle.gixobj_entries.specs.Entries.{EntryView}
+use Rattle.gixobj_tree_entries.specs.Entries.{EntryView}
 use Rattle.gixobj_editor.specs.Commands.{at_root}
 use Rattle.gixobj_editor.proofs.Causes.{reply_to_has_keep_cause}
 use Rattle.gixobj_editor.proofs.Replied.{leaf_removal_replied, removal_replied, upsert_replied}

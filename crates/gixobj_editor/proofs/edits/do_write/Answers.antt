@@ -1,10 +1,10 @@
 use Rattle.std.proofs.Common.{List, Result, ap, refl, ◌∙◌}
 use Rattle.std.specs.Fn.{FnReturnsAt}
-use Rattle.gixobj_files.specs.Emission.{EmitsSome}
-use Rattle.gixobj_files.specs.State.{State, open_bases, open_dirs}
+use Rattle.gixobj_editor_files.specs.Emission.{EmitsSome}
+use Rattle.gixobj_editor_files.specs.State.{State, open_bases, open_dirs}
 use Rattle.gixobj_hash.specs.declared.hash.object_id.ObjectId.{ObjectId}
 use Rattle.gixobj_store.specs.Stores.{StoreModel}
-use Rattle.gixobj_entries.specs.Entries.{EntryView}
+use Rattle.gixobj_tree_entries.specs.Entries.{EntryView}
 use Rattle.gixobj_editor.specs.Commands.{at_root}
 use Rattle.gixobj_editor.proofs.Causes.{cause_of_borrowed_trees}
 use Rattle.gixobj_editor.proofs.Calling.{callable, stopped, written}

@@ -2,7 +2,7 @@ use Rattle.std.proofs.Common.{length, List, arith, ap, refl, Result}
 use Rattle.std.specs.Fn.{FnReturnsAt}
 use Rattle.gixobj_hash.specs.declared.hash.object_id.ObjectId.{ObjectId}
 use Rattle.gixobj_store.specs.Stores.{StoreModel}
-use Rattle.gixobj_entries.specs.Entries.{EntryView}
+use Rattle.gixobj_tree_entries.specs.Entries.{EntryView}
 use Rattle.gixobj_editor.proofs.Causes.{no_more_causes, one_more_cause}
 use Rattle.gixobj_editor.proofs.Named.{names_history, run_keeps_pairs}
 use Rattle.gixobj_editor.proofs.OneId.{ids_determine_files}

@@ -1,10 +1,10 @@
 use Rattle.std.proofs.Common.{Result, ◌≡◌, ◌+◌, ◌≤◌, ◌++◌, List, length, vec_len, vec_capacity}
 use Rattle.std.specs.Fn.{FnReturnsAt}
 use Rattle.std.specs.Vec.Iter.{into_iter_items}
-use Rattle.gixobj_files.specs.State.{State}
+use Rattle.gixobj_editor_files.specs.State.{State}
 use Rattle.gixobj_hash.specs.declared.hash.object_id.ObjectId.{ObjectId}
 use Rattle.gixobj_store.specs.Stores.{StoreModel}
-use Rattle.gixobj_entries.specs.Entries.{EntryView}
+use Rattle.gixobj_tree_entries.specs.Entries.{EntryView}
 use Rattle.gixobj_editor.specs.Causes.{HaveRunCauses}
 use Rattle.gixobj_editor.specs.Replies.{IsRun}
 use Rattle.gixobj_editor.specs.declared.reply.Reply.{Reply}

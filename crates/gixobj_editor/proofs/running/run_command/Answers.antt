@@ -1,12 +1,12 @@
 use Rattle.std.proofs.Common.{List, Result, rules, subst}
 use Rattle.std.specs.Fn.{FnReturnsAt}
 use Rattle.bstr.specs.declared.bstring.BString.{BString}
-use Rattle.gixobj_open.specs.Paths.{names_of}
+use Rattle.gixobj_editor_open.specs.Paths.{names_of}
 use Rattle.gixobj_editor.specs.Causes.{HasCausesAt}
 use Rattle.gixobj_editor.specs.Cursors.{cursor_path}
 use Rattle.gixobj_hash.specs.declared.hash.object_id.ObjectId.{ObjectId}
 use Rattle.gixobj_store.specs.Stores.{StoreModel}
-use Rattle.gixobj_entries.specs.Entries.{EntryView}
+use Rattle.gixobj_tree_entries.specs.Entries.{EntryView}
 use Rattle.gixobj_editor.specs.Replies.{IsReplyAt}
 use Rattle.gixobj_editor.proofs.Replied.{is_root_set_of_reply}
 use Rattle.gixobj_editor.proofs.running.run_command.Goals as goal

@@ -1,17 +1,17 @@
 //! The calls of programs that sign (gpg(1), `--detach-sign`; ssh-keygen(1), `-Y sign`).
 ghost use Rattle.std.specs.Prelude.{◌≡◌, ◌∷◌, [], IfOk, map};
 ghost use Rattle.bstr.specs.Owned.{bstring_bytes};
-ghost use Rattle.gixobj_report.specs.Calls.{call_view, word_view};
+ghost use Rattle.gixobj_signature_reports.specs.Calls.{call_view, word_view};
 ghost use Rattle.gixobj_signature.specs.Signing.{gpg_call, leaving_call, literal_call, sign_options_view, path_call, ssh_call};
 
 use super::{Options, is_literal_ssh_key};
 use bstr::{BString, ByteSlice};
 use gixobj_hash::OutOfMemory;
-use gixobj_report::arguments::Piece::{File, Text};
-use gixobj_report::arguments::{
+use gixobj_signature_reports::arguments::Piece::{File, Text};
+use gixobj_signature_reports::arguments::{
     arguments_with, environment_of, file_of, git_arguments_of, push_arguments,
 };
-use gixobj_report::call::{Call, Word};
+use gixobj_signature_reports::call::{Call, Word};
 use std::alloc::Global;
 
 /// Makes the call of an OpenPGP or X.509 program, whose input is the payload.

@@ -2,9 +2,9 @@
 ghost use Rattle.std.specs.Prelude.{◌≡◌, IfOk, Some, map};
 ghost use Rattle.std.specs.Option.{option_map};
 ghost use Rattle.bstr.specs.Owned.{bstring_bytes};
-ghost use Rattle.gixobj_report.specs.Calls.{call_view, output_view, word_view};
-ghost use Rattle.gixobj_report.specs.Outcomes.{outcome_view};
-ghost use Rattle.gixobj_fields.specs.declared.signature.Format.TheVariants as format;
+ghost use Rattle.gixobj_signature_reports.specs.Calls.{call_view, output_view, word_view};
+ghost use Rattle.gixobj_signature_reports.specs.Outcomes.{outcome_view};
+ghost use Rattle.gixobj_parse.specs.declared.signature.Format.TheVariants as format;
 ghost use Rattle.gixobj_signature.specs.SignedBytes.{signed_bytes};
 ghost use Rattle.gixobj_signature.specs.Verifiers.{by_open_pgp, by_x509, program_of};
 ghost use Rattle.gixobj_signature.specs.VerifyingCalls.{open_pgp_call, open_pgp_arguments, full_call, x509_call, x509_arguments};
@@ -14,11 +14,11 @@ ghost use Rattle.gixobj_signature.specs.Verifying.{IsOutcomeOf, gpg_verified, gp
 use super::{Error, Program, run_call};
 use crate::signature::{Call, Output, Runner, SignedData, Word};
 use bstr::{BString, ByteSlice};
-use gixobj_fields::signature::Format;
 use gixobj_hash::OutOfMemory;
-use gixobj_report::arguments::Piece::{File, Text};
-use gixobj_report::arguments::{arguments_with, environment_of, file_of};
-use gixobj_report::report::{Outcome, evaluate, parse_gpg_output};
+use gixobj_parse::signature::Format;
+use gixobj_signature_reports::arguments::Piece::{File, Text};
+use gixobj_signature_reports::arguments::{arguments_with, environment_of, file_of};
+use gixobj_signature_reports::report::{Outcome, evaluate, parse_gpg_output};
 use std::alloc::Global;
 
 /// Verifies with an OpenPGP program, and rejects a signature of another format.

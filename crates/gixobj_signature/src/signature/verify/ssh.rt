@@ -2,9 +2,9 @@
 ghost use Rattle.std.specs.Prelude.{◌≡◌, ◌++◌, ◌∷◌, [], IfOk, None, OnOk, Some, filter, map};
 ghost use Rattle.std.specs.Option.{option_map};
 ghost use Rattle.bstr.specs.Owned.{bstring_bytes};
-ghost use Rattle.gixobj_report.specs.Calls.{output_view};
-ghost use Rattle.gixobj_report.specs.Outcomes.{outcome_view};
-ghost use Rattle.gixobj_report.specs.declared.report.TrustLevel.TheVariants as trust;
+ghost use Rattle.gixobj_signature_reports.specs.Calls.{output_view};
+ghost use Rattle.gixobj_signature_reports.specs.Outcomes.{outcome_view};
+ghost use Rattle.gixobj_signature_reports.specs.declared.report.TrustLevel.TheVariants as trust;
 ghost use Rattle.gixobj_signature.specs.SignedBytes.{signed_bytes};
 ghost use Rattle.gixobj_signature.specs.Verifiers.{by_ssh, ssh_of, ssh_program_of};
 ghost use Rattle.gixobj_signature.specs.VerifyingCalls.{novalidate_call, principal_call, principals_call};
@@ -18,9 +18,9 @@ use super::{Error, SshProgram, run_call};
 use crate::signature::{Output, Runner, SignedData};
 use bstr::{BString, ByteSlice};
 use calls::{novalidate_call_of, principal_call_of, principals_call_of};
-use gixobj_fields::signature::Format;
 use gixobj_hash::OutOfMemory;
-use gixobj_report::report::{Outcome, TrustLevel, evaluate, parse_ssh_output};
+use gixobj_parse::signature::Format;
+use gixobj_signature_reports::report::{Outcome, TrustLevel, evaluate, parse_ssh_output};
 use std::alloc::Global;
 
 /// Verifies with an SSH program, and rejects a signature of another format.

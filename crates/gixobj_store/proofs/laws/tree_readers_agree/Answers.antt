@@ -1,6 +1,6 @@
 use Rattle.gixobj_store.proofs.BrokenTrees.{is_longest_prefix_of_walk}
 use Rattle.gixobj_store.proofs.laws.tree_readers_agree.Goals as goal
-use Rattle.gixobj_entries.proofs.EntryRuns as runs
+use Rattle.gixobj_tree_entries.proofs.EntryRuns as runs
 
 pub returns-clause-yields : goal.returns-clause-yields
 returns-clause-yields c = runs.yields_entries_iff

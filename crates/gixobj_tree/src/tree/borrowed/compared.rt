@@ -2,8 +2,8 @@
 ghost use Rattle.std.specs.Prelude.{refl};
 ghost use Rattle.std.specs.Cmp.{on_equiv, on_total, partial_equiv_from_equiv, partial_order_from_agreeing_total};
 ghost use Rattle.std.specs.Ordering.{as_partial_cmp, on};
-ghost use Rattle.gixobj_entries.specs.EntryOrder.{same_tree, tree_cmp, tree_feed};
-ghost use Rattle.gixobj_entries.specs.EntryOrderLaws.{tree_cmp_total, tree_equiv, tree_ties, trees_alike};
+ghost use Rattle.gixobj_tree_entries.specs.EntryOrder.{same_tree, tree_cmp, tree_feed};
+ghost use Rattle.gixobj_tree_entries.specs.EntryOrderLaws.{tree_cmp_total, tree_equiv, tree_ties, trees_alike};
 ghost use Rattle.gixobj_tree.specs.TreeViews.{tree_entries};
 
 use super::TreeRef;

@@ -1,13 +1,13 @@
 //! Decoding of trees (gitdatamodel, "trees").
 ghost use Rattle.std.specs.Prelude.{◌≡◌, ◌≤◌, ◌<◌, ◌+◌, ◌/◌, IfErr, IfOk, length, min};
 ghost use Rattle.gixobj_hash.specs.Hash.{hash_len, id_kind};
-ghost use Rattle.gixobj_entries.specs.TreeDecoding.{DecodesToTree, IsTreeDecodeError};
+ghost use Rattle.gixobj_tree_entries.specs.TreeDecoding.{DecodesToTree, IsTreeDecodeError};
 ghost use Rattle.gixobj_tree.specs.TreeViews.{tree_entries};
 
 use super::TreeRef;
-pub use gixobj_entries::decode::decode_entry;
 use gixobj_hash::decode::Error;
 use gixobj_hash::hash::Kind;
+pub use gixobj_tree_entries::decode::decode_entry;
 use std::alloc::Global;
 
 impl<'a> TreeRef<'a> {

@@ -1,5 +1,5 @@
 use Rattle.gixobj_codec.proofs.HeadersFound.{all_values, first_position, first_value}
-use Rattle.gixobj_line.specs.RemainingHeaders.{remaining_owned_headers}
+use Rattle.gixobj_grammar.specs.RemainingHeaders.{remaining_owned_headers}
 use Rattle.gixobj_codec.proofs.laws.headers.owned_header_search_complete.Goals as goal
 
 pub returns-clause-value : goal.returns-clause-value

@@ -1,5 +1,5 @@
 use Rattle.std.proofs.Common.{ap, ◌∙◌}
-use Rattle.gixobj_line.specs.CommitSignatures.{signature_field}
+use Rattle.gixobj_grammar.specs.CommitSignatures.{signature_field}
 use Rattle.gixobj_commit.proofs.CommitSigned.{failed_signing, rejected_unwritten, signed}
 use Rattle.gixobj_commit.proofs.commit.Commit.sign.Goals as goal
 

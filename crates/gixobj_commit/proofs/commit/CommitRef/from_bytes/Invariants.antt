@@ -1,6 +1,6 @@
 use Rattle.std.proofs.Common.{length, ◌≤◌}
 use Rattle.gixobj_commit.specs.CommitViews.{BorrowsOneLineValues, commit_lines}
-use Rattle.gixobj_line.specs.CommitBuilding.{Gathers}
+use Rattle.gixobj_grammar.specs.CommitBuilding.{Gathers}
 use Rattle.gixobj_commit.proofs.commit.CommitRef.from_bytes.Given as goal
 
 abbrev pub invariant-loop-state : goal.invariant-loop-state

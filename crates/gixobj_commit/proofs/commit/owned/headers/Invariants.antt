@@ -1,5 +1,5 @@
 use Rattle.std.proofs.Common.{◌≡◌, map, take}
-use Rattle.gixobj_fields.specs.HeaderReading.{header_of, owned_header_of}
+use Rattle.gixobj_parse.specs.HeaderReading.{header_of, owned_header_of}
 use Rattle.gixobj_commit.proofs.commit.owned.headers.Given as goal
 
 abbrev pub invariant-loop-one : goal.invariant-loop-one

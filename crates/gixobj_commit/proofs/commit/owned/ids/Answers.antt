@@ -2,7 +2,7 @@ use Rattle.std.proofs.Common.{arith, map}
 use Rattle.std.proofs.lemmas.Grind.{common_steps}
 use Rattle.bstr.specs.BStr.{bstr_bytes}
 use Rattle.gixobj_hash.proofs.HexIds.{all_zip_decodes_to_id}
-use Rattle.gixobj_line.proofs.ParentHexes.{parent_at_is_id_hex}
+use Rattle.gixobj_grammar.proofs.ParentHexes.{parent_at_is_id_hex}
 use Rattle.gixobj_commit.proofs.commit.owned.ids.Goals as goal
 
 pub id_of_hex-requires : goal.id_of_hex-requires

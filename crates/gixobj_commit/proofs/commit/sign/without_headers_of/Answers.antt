@@ -3,7 +3,7 @@ use Rattle.std.proofs.lemmas.Fn.{filter_same}
 use Rattle.std.specs.List.{filter}
 use Rattle.gixobj_commit.specs.CommitSigning.{is_header_named}
 use Rattle.gixobj_commit.specs.CommitViews.{owned_commit_lines}
-use Rattle.gixobj_fields.specs.HeaderReading.{owned_header_of}
+use Rattle.gixobj_parse.specs.HeaderReading.{owned_header_of}
 use Rattle.gixobj_hash.specs.HeaderFormat.{Header}
 use Rattle.gixobj_commit.proofs.CommitSigned.{map_filter_view}
 use Rattle.gixobj_commit.proofs.commit.sign.without_headers_of.Goals as goal

@@ -5,7 +5,7 @@ use Rattle.std.proofs.lemmas.List.{append-nil}
 use Rattle.std.proofs.lemmas.Result.{err_from_is_err_and}
 use Rattle.gixobj_streams.proofs.Appends.{appends_prefix_first, appends_prefix_append, appends_all_append}
 use Rattle.gixobj_streams.proofs.Errors.{writing_error_longer}
-use Rattle.gixobj_line.specs.Commit.{encode_encoding}
+use Rattle.gixobj_grammar.specs.Commit.{encode_encoding}
 use Rattle.gixobj_hash.specs.Optional.{bytes_if_some}
 use Rattle.gixobj_commit.specs.CommitWriting.{IsEncodingLineError}
 use Rattle.gixobj_commit.proofs.commit.write.write_rest.Goals as goal

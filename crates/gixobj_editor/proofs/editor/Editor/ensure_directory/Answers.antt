@@ -3,24 +3,24 @@
 use Rattle.std.proofs.Common.{◌≡◌, ◌∙◌, [], refl, sym, ap, subst}
 use Rattle.std.proofs.lemmas.List.Elements.{recursion_from_All}
 use Rattle.gixobj_tree.specs.WellFormed.{IsEntryName}
-use Rattle.gixobj_files.specs.Edits.{IsNoTree, Opens, ensured_dirs}
-use Rattle.gixobj_files.specs.State.{State, open_dirs}
-use Rattle.gixobj_files.specs.Unopened.{with_empty_name}
-use Rattle.gixobj_open.specs.Paths.{names_of}
-use Rattle.gixobj_open.specs.Nested.{Opened, dirs_of}
-use Rattle.gixobj_directories.specs.Openings.{AreTreesOf, IsOpenErrorAt}
-use Rattle.gixobj_open.proofs.Results.{if_err_weaken}
+use Rattle.gixobj_editor_files.specs.Edits.{IsNoTree, Opens, ensured_dirs}
+use Rattle.gixobj_editor_files.specs.State.{State, open_dirs}
+use Rattle.gixobj_editor_files.specs.Unopened.{with_empty_name}
+use Rattle.gixobj_editor_open.specs.Paths.{names_of}
+use Rattle.gixobj_editor_open.specs.Nested.{Opened, dirs_of}
+use Rattle.gixobj_editor_lookups.specs.Openings.{AreTreesOf, IsOpenErrorAt}
+use Rattle.gixobj_editor_open.proofs.Results.{if_err_weaken}
 use Rattle.gixobj_store.specs.Stores.{StoreModel}
-use Rattle.gixobj_directories.specs.EditNames.{IsFirstNameError}
-use Rattle.gixobj_directories.specs.FailedOpenings.{IsLookupError}
+use Rattle.gixobj_editor_lookups.specs.EditNames.{IsFirstNameError}
+use Rattle.gixobj_editor_lookups.specs.FailedOpenings.{IsLookupError}
 use Rattle.gixobj_editor.specs.FailedEdits.{IsAfterFailedEdit}
-use Rattle.gixobj_directories.specs.declared.error.Error.{Error}
+use Rattle.gixobj_editor_lookups.specs.declared.error.Error.{Error}
 use Rattle.gixobj_editor.specs.Cursors.{IsCursorError}
 use Rattle.gixobj_editor.proofs.EnsuredAt.{ensured_at, ensured_path_is_open, cursor_error_of_name, rejects_at, path_not_nil}
-use Rattle.gixobj_directories.proofs.ValidNames.{no_lookup_of_name}
+use Rattle.gixobj_editor_lookups.proofs.ValidNames.{no_lookup_of_name}
 use Rattle.gixobj_editor.proofs.Edited.{OpenedOn, OpenedSo, halted_so, opened_so, unchanged_at, state_of}
-use Rattle.gixobj_directories.proofs.NamedTrees.{trees_of_objects_exist}
-use Rattle.gixobj_directories.specs.declared.opening.NotLookedUp.TheVariants as not_looked_up
+use Rattle.gixobj_editor_lookups.proofs.NamedTrees.{trees_of_objects_exist}
+use Rattle.gixobj_editor_lookups.specs.declared.opening.NotLookedUp.TheVariants as not_looked_up
 use Rattle.gixobj_editor.proofs.OpenedOn.{ensured_on, halted_on, opened_on}
 use Rattle.gixobj_editor.proofs.editor.Editor.ensure_directory.Goals as goal
 

@@ -1,7 +1,7 @@
 use Rattle.std.proofs.Common.{◌∙◌, ap}
-use Rattle.gixobj_open.specs.Paths.{names_of}
-use Rattle.gixobj_files.specs.Edits.{entry_at}
-use Rattle.gixobj_files.specs.State.{open_dirs}
+use Rattle.gixobj_editor_open.specs.Paths.{names_of}
+use Rattle.gixobj_editor_files.specs.Edits.{entry_at}
+use Rattle.gixobj_editor_files.specs.State.{open_dirs}
 use Rattle.gixobj_editor.proofs.Edited.{map_dirs_eq}
 use Rattle.std.proofs.Common.{sym}
 use Rattle.gixobj_editor.proofs.editor.Editor.get.Goals as goal

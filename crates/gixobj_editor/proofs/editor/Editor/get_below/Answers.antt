@@ -1,11 +1,11 @@
 -- The directory's own entry, or none if the directory isn't open.
 use Rattle.std.proofs.Common.{◌≡◌, ◌∙◌, ap, sym}
-use Rattle.gixobj_open.specs.Paths.{names_of}
-use Rattle.gixobj_open.specs.Nested.{dirs_of}
-use Rattle.gixobj_files.specs.Edits.{entry_at}
-use Rattle.gixobj_files.specs.Files.{Path}
-use Rattle.gixobj_files.specs.State.{State, open_dirs}
-use Rattle.gixobj_directories.specs.EditNames.{from_root}
+use Rattle.gixobj_editor_open.specs.Paths.{names_of}
+use Rattle.gixobj_editor_open.specs.Nested.{dirs_of}
+use Rattle.gixobj_editor_files.specs.Edits.{entry_at}
+use Rattle.gixobj_editor_files.specs.Files.{Path}
+use Rattle.gixobj_editor_files.specs.State.{State, open_dirs}
+use Rattle.gixobj_editor_lookups.specs.EditNames.{from_root}
 use Rattle.gixobj_editor.proofs.Edited.{map_dirs_eq}
 use Rattle.gixobj_editor.proofs.FoundBelow.{entry_at_from_root, entry_at_from_root_none}
 use Rattle.gixobj_editor.proofs.editor.Editor.get_below.Goals as goal

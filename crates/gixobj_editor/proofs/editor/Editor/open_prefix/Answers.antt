@@ -1,10 +1,10 @@
 -- A single empty name means the root.
 use Rattle.std.proofs.Common.{◌≡◌, subst}
 use Rattle.std.specs.Prelude.{IfErr, OnOk}
-use Rattle.gixobj_files.specs.Files.{Path, Trees}
-use Rattle.gixobj_files.specs.State.{open_dirs}
-use Rattle.gixobj_files.specs.Unopened.{with_empty_name}
-use Rattle.gixobj_directories.specs.Openings.{AreTreesOf}
+use Rattle.gixobj_editor_files.specs.Files.{Path, Trees}
+use Rattle.gixobj_editor_files.specs.State.{open_dirs}
+use Rattle.gixobj_editor_files.specs.Unopened.{with_empty_name}
+use Rattle.gixobj_editor_lookups.specs.Openings.{AreTreesOf}
 use Rattle.gixobj_editor.specs.Cursors.{IsEnsured, IsCursorError}
 use Rattle.gixobj_editor.specs.FailedEdits.{IsAfterFailedEdit}
 use Rattle.gixobj_editor.proofs.editor.Editor.open_prefix.Goals as goal

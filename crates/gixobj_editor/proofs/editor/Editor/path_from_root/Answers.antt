@@ -1,4 +1,4 @@
-use Rattle.gixobj_open.specs.Paths.{names_of}
+use Rattle.gixobj_editor_open.specs.Paths.{names_of}
 use Rattle.gixobj_editor.proofs.Edited.{is_opened_of_editor, opened_bases_unchanged}
 use Rattle.gixobj_editor.proofs.editor.Editor.path_from_root.Goals as goal
 

@@ -1,7 +1,7 @@
 -- The root is open.
 use Rattle.std.proofs.Common.{◌≢◌, List, None, subst, sym}
 use Rattle.bstr.specs.declared.bstring.BString.{BString}
-use Rattle.gixobj_open.specs.Paths.{names_of}
+use Rattle.gixobj_editor_open.specs.Paths.{names_of}
 use Rattle.gixobj_editor.proofs.Edited.{map_is_opened, map_dirs}
 use Rattle.gixobj_editor.proofs.editor.Editor.to_cursor.Goals as goal
 

@@ -1,21 +1,21 @@
 -- The directories above the path are opened as far as they exist, and then the entry is removed.
 use Rattle.std.proofs.Common.{sym, ap, subst}
-use Rattle.gixobj_files.specs.Opening.{Dirs}
-use Rattle.gixobj_files.specs.State.{State, open_dirs}
-use Rattle.gixobj_open.specs.Paths.{names_of}
-use Rattle.gixobj_directories.specs.Openings.{AreTreesOf}
-use Rattle.gixobj_open.proofs.Results.{if_err_weaken}
-use Rattle.gixobj_directories.proofs.NamedTrees.{trees_of_objects_exist}
-use Rattle.gixobj_files.proofs.WrittenTrees.{on_err_of}
+use Rattle.gixobj_editor_files.specs.Opening.{Dirs}
+use Rattle.gixobj_editor_files.specs.State.{State, open_dirs}
+use Rattle.gixobj_editor_open.specs.Paths.{names_of}
+use Rattle.gixobj_editor_lookups.specs.Openings.{AreTreesOf}
+use Rattle.gixobj_editor_open.proofs.Results.{if_err_weaken}
+use Rattle.gixobj_editor_lookups.proofs.NamedTrees.{trees_of_objects_exist}
+use Rattle.gixobj_editor_files.proofs.WrittenTrees.{on_err_of}
 use Rattle.gixobj_editor.specs.Removals.{IsRemovalError}
 use Rattle.gixobj_editor.proofs.Edited.{map_dirs_eq, same_state, stay_at, state_of}
-use Rattle.gixobj_directories.specs.declared.opening.NotLookedUp.TheVariants as not_looked_up
+use Rattle.gixobj_editor_lookups.specs.declared.opening.NotLookedUp.TheVariants as not_looked_up
 use Rattle.gixobj_editor.proofs.RemovedAt.{removed_at}
 use Rattle.gixobj_editor.proofs.OpenedOn.{in_part_on, taken_on}
 use Rattle.gixobj_store.specs.Stores.{StoreModel}
-use Rattle.gixobj_directories.specs.EditNames.{directory_of}
+use Rattle.gixobj_editor_lookups.specs.EditNames.{directory_of}
 use Rattle.gixobj_editor.specs.FailedEdits.{IsAfterFailedEdit}
-use Rattle.gixobj_directories.specs.declared.error.Error.{Error}
+use Rattle.gixobj_editor_lookups.specs.declared.error.Error.{Error}
 use Rattle.gixobj_editor.proofs.editor.Editor.try_remove.Goals as goal
 
 pub returns-in_err-open_for_removal-clause-after_error : goal.returns-in_err-open_for_removal-clause-after_error

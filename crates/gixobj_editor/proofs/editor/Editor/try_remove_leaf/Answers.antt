@@ -1,24 +1,24 @@
 -- The directories above the path are opened as far as they exist, and then the leaf is removed: the clauses of
 -- `try_remove_leaf`.
 use Rattle.std.proofs.Common.{◌∙◌, inl, inr, sym, ap, subst}
-use Rattle.gixobj_files.specs.Opening.{Dirs}
-use Rattle.gixobj_files.specs.State.{State, open_dirs}
-use Rattle.gixobj_open.specs.Paths.{names_of}
-use Rattle.gixobj_directories.specs.Openings.{AreTreesOf}
-use Rattle.gixobj_open.proofs.Results.{if_err_weaken}
-use Rattle.gixobj_directories.proofs.NamedTrees.{trees_of_objects_exist}
-use Rattle.gixobj_files.proofs.WrittenTrees.{on_err_of}
-use Rattle.gixobj_directories.specs.RemovalErrors.{IsLeafDirectoryError}
+use Rattle.gixobj_editor_files.specs.Opening.{Dirs}
+use Rattle.gixobj_editor_files.specs.State.{State, open_dirs}
+use Rattle.gixobj_editor_open.specs.Paths.{names_of}
+use Rattle.gixobj_editor_lookups.specs.Openings.{AreTreesOf}
+use Rattle.gixobj_editor_open.proofs.Results.{if_err_weaken}
+use Rattle.gixobj_editor_lookups.proofs.NamedTrees.{trees_of_objects_exist}
+use Rattle.gixobj_editor_files.proofs.WrittenTrees.{on_err_of}
+use Rattle.gixobj_editor_lookups.specs.RemovalErrors.{IsLeafDirectoryError}
 use Rattle.gixobj_editor.specs.Removals.{IsLeafRemovalError}
 use Rattle.gixobj_editor.proofs.Edited.{map_dirs_eq, same_state, stay_at, state_of}
-use Rattle.gixobj_directories.specs.declared.opening.NotLookedUp.TheVariants as not_looked_up
+use Rattle.gixobj_editor_lookups.specs.declared.opening.NotLookedUp.TheVariants as not_looked_up
 use Rattle.gixobj_editor.proofs.RemovedAt.{no_lookup_of_leaf, rejected_at, removed_at, known_at}
 use Rattle.gixobj_editor.proofs.OpenedOn.{in_part_on, opened_on, taken_on}
 use Rattle.gixobj_store.specs.Stores.{StoreModel}
-use Rattle.gixobj_directories.specs.EditNames.{directory_of}
-use Rattle.gixobj_directories.specs.FailedOpenings.{IsLookupError}
+use Rattle.gixobj_editor_lookups.specs.EditNames.{directory_of}
+use Rattle.gixobj_editor_lookups.specs.FailedOpenings.{IsLookupError}
 use Rattle.gixobj_editor.specs.FailedEdits.{IsAfterFailedEdit}
-use Rattle.gixobj_directories.specs.declared.error.Error.{Error}
+use Rattle.gixobj_editor_lookups.specs.declared.error.Error.{Error}
 use Rattle.gixobj_editor.proofs.editor.Editor.try_remove_leaf.Goals as goal
 
 pub returns-in_err-open_for_removal-clause-after_error : goal.returns-in_err-open_for_removal-clause-after_error

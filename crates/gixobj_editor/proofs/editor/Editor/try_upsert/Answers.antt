@@ -3,25 +3,25 @@ use Rattle.std.proofs.Common.{◌≡◌, ◌∙◌, sym, ap, subst}
 use Rattle.std.proofs.lemmas.List.Elements.{recursion_from_All}
 use Rattle.bstr.specs.Owned.{bstring_bytes}
 use Rattle.gixobj_tree.specs.WellFormed.{IsEntryName}
-use Rattle.gixobj_entries.specs.Mode.{mode_of_kind}
-use Rattle.gixobj_files.specs.Edits.{IsNoTree, Opens, upserted_dirs}
-use Rattle.gixobj_files.specs.State.{State, open_dirs}
-use Rattle.gixobj_open.specs.Paths.{names_of}
-use Rattle.gixobj_open.specs.Nested.{Opened, dirs_of}
-use Rattle.gixobj_directories.specs.Openings.{AreTreesOf, IsOpenErrorAt}
-use Rattle.gixobj_open.proofs.Results.{if_err_weaken}
-use Rattle.gixobj_open.proofs.Steps.{names_of_nil}
+use Rattle.gixobj_tree_entries.specs.Mode.{mode_of_kind}
+use Rattle.gixobj_editor_files.specs.Edits.{IsNoTree, Opens, upserted_dirs}
+use Rattle.gixobj_editor_files.specs.State.{State, open_dirs}
+use Rattle.gixobj_editor_open.specs.Paths.{names_of}
+use Rattle.gixobj_editor_open.specs.Nested.{Opened, dirs_of}
+use Rattle.gixobj_editor_lookups.specs.Openings.{AreTreesOf, IsOpenErrorAt}
+use Rattle.gixobj_editor_open.proofs.Results.{if_err_weaken}
+use Rattle.gixobj_editor_open.proofs.Steps.{names_of_nil}
 use Rattle.gixobj_store.specs.Stores.{StoreModel}
-use Rattle.gixobj_directories.specs.EditNames.{IsFirstNameError}
+use Rattle.gixobj_editor_lookups.specs.EditNames.{IsFirstNameError}
 use Rattle.gixobj_editor.specs.Upserts.{IsUpsertError}
-use Rattle.gixobj_directories.specs.FailedOpenings.{IsLookupError}
+use Rattle.gixobj_editor_lookups.specs.FailedOpenings.{IsLookupError}
 use Rattle.gixobj_editor.specs.FailedEdits.{IsAfterFailedEdit}
-use Rattle.gixobj_directories.specs.declared.error.Error.{Error}
-use Rattle.gixobj_directories.proofs.ValidNames.{no_lookup_of_name}
+use Rattle.gixobj_editor_lookups.specs.declared.error.Error.{Error}
+use Rattle.gixobj_editor_lookups.proofs.ValidNames.{no_lookup_of_name}
 use Rattle.gixobj_editor.proofs.Edited.{OpenedOn, OpenedSo, edited_bases_idle, halted_so, upsert_error_of_name, is_upserted_unchanged, is_opened_of_editor, opened_so, fails, unchanged_at, upserted_at, state_of}
-use Rattle.gixobj_directories.specs.declared.opening.NotLookedUp.TheVariants as not_looked_up
-use Rattle.gixobj_directories.proofs.NamedTrees.{trees_of_objects_exist}
-use Rattle.gixobj_directories.proofs.Paths.{names_of_snoc}
+use Rattle.gixobj_editor_lookups.specs.declared.opening.NotLookedUp.TheVariants as not_looked_up
+use Rattle.gixobj_editor_lookups.proofs.NamedTrees.{trees_of_objects_exist}
+use Rattle.gixobj_editor_lookups.proofs.Paths.{names_of_snoc}
 use Rattle.gixobj_editor.proofs.OpenedOn.{halted_on, opened_on, inserted_on}
 use Rattle.gixobj_editor.proofs.editor.Editor.try_upsert.Goals as goal
 

@@ -3,12 +3,12 @@ use Rattle.std.proofs.Common.{◌∙◌, Err, Ok, ap, subst, sym}
 use Rattle.std.specs.Prelude.{IfErr}
 use Rattle.std.specs.Fn.{CalledAt}
 use Rattle.std.proofs.lemmas.Result.{IfOk-weaker}
-use Rattle.gixobj_open.specs.Paths.{names_of}
-use Rattle.gixobj_write.specs.WriteErrors.{IsWriteError}
-use Rattle.gixobj_open.specs.Nested.{bases_of}
-use Rattle.gixobj_files.specs.Emission.{EmitsSome}
-use Rattle.gixobj_files.specs.Opening.{Dirs}
-use Rattle.gixobj_files.specs.State.{State, open_bases, open_dirs}
+use Rattle.gixobj_editor_open.specs.Paths.{names_of}
+use Rattle.gixobj_editor_write.specs.WriteErrors.{IsWriteError}
+use Rattle.gixobj_editor_open.specs.Nested.{bases_of}
+use Rattle.gixobj_editor_files.specs.Emission.{EmitsSome}
+use Rattle.gixobj_editor_files.specs.Opening.{Dirs}
+use Rattle.gixobj_editor_files.specs.State.{State, open_bases, open_dirs}
 use Rattle.gixobj_editor.proofs.Edited.{if_ok_and, map_bases_eq, map_dirs_eq}
 use Rattle.gixobj_editor.proofs.OpenedOn.{written_opened_on}
 use Rattle.gixobj_editor.proofs.WrittenOut.{written_at}

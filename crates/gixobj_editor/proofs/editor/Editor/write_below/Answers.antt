@@ -2,14 +2,14 @@
 use Rattle.std.proofs.Common.{◌≢◌, ◌∙◌, List, Err, None, Ok, ap, subst, sym}
 use Rattle.std.specs.Prelude.{IfErr}
 use Rattle.std.specs.Fn.{CalledAt}
-use Rattle.gixobj_open.specs.Paths.{names_of}
-use Rattle.gixobj_write.specs.WriteErrors.{IsWriteError}
-use Rattle.gixobj_open.specs.Nested.{bases_of, dirs_of}
-use Rattle.gixobj_files.specs.Files.{Path}
-use Rattle.gixobj_files.specs.Edits.{only_open, with_path}
-use Rattle.gixobj_files.specs.Emission.{EmitsSome, Saves}
-use Rattle.gixobj_files.specs.Opening.{Dirs, in_path}
-use Rattle.gixobj_files.specs.State.{State, open_bases, open_dirs}
+use Rattle.gixobj_editor_open.specs.Paths.{names_of}
+use Rattle.gixobj_editor_write.specs.WriteErrors.{IsWriteError}
+use Rattle.gixobj_editor_open.specs.Nested.{bases_of, dirs_of}
+use Rattle.gixobj_editor_files.specs.Files.{Path}
+use Rattle.gixobj_editor_files.specs.Edits.{only_open, with_path}
+use Rattle.gixobj_editor_files.specs.Emission.{EmitsSome, Saves}
+use Rattle.gixobj_editor_files.specs.Opening.{Dirs, in_path}
+use Rattle.gixobj_editor_files.specs.State.{State, open_bases, open_dirs}
 use Rattle.gixobj_editor.proofs.Edited.{if_ok_and, map_dirs, map_bases_eq, map_dirs_eq}
 use Rattle.gixobj_editor.proofs.OpenedOn.{IsWrittenSo, written_below_opened_on}
 use Rattle.gixobj_editor.proofs.WrittenBelow.{prefix_is_open, written_at}

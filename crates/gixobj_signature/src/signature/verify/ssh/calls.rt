@@ -2,7 +2,7 @@
 ghost use Rattle.std.specs.Prelude.{◌≡◌, ◌++◌, ◌∷◌, [], IfOk, map};
 ghost use Rattle.std.specs.Option.{option_map};
 ghost use Rattle.bstr.specs.Owned.{bstring_bytes};
-ghost use Rattle.gixobj_report.specs.Calls.{call_view, pair_view, word_view};
+ghost use Rattle.gixobj_signature_reports.specs.Calls.{call_view, pair_view, word_view};
 ghost use Rattle.gixobj_signature.specs.SignedBytes.{signed_bytes};
 ghost use Rattle.gixobj_signature.specs.Verifiers.{ssh_of, ssh_program_of};
 ghost use Rattle.gixobj_signature.specs.VerifyingCalls.{in_english, novalidate_call, novalidate_arguments, principal_call, principal_arguments, principals_call, revocation_arguments, full_call};
@@ -11,8 +11,8 @@ use crate::signature::verify::SshProgram;
 use crate::signature::{Call, SignedData, Word};
 use bstr::{BString, ByteSlice};
 use gixobj_hash::OutOfMemory;
-use gixobj_report::arguments::Piece::{File, Text, VerifyTime};
-use gixobj_report::arguments::{
+use gixobj_signature_reports::arguments::Piece::{File, Text, VerifyTime};
+use gixobj_signature_reports::arguments::{
     arguments_with, environment_of, file_of, git_arguments_of, push_arguments, push_pair,
 };
 use std::alloc::Global;

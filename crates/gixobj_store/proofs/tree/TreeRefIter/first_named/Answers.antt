@@ -1,5 +1,5 @@
 use Rattle.std.proofs.Common.{rules}
-use Rattle.gixobj_entries.specs.EntryViews.{entry_view}
+use Rattle.gixobj_tree_entries.specs.EntryViews.{entry_view}
 use Rattle.gixobj_store.proofs.Searching.{has_first_named_of_search, no_entry_named_before_damage, no_entry_named_to_end, searches_snoc}
 use Rattle.gixobj_store.specs.Lookups.{IsNamed}
 use Rattle.gixobj_store.proofs.tree.TreeRefIter.first_named.Goals as goal

@@ -2,7 +2,7 @@ use Rattle.std.proofs.Common.{rules, ◌≡◌, map, None, Option, Some, refl, s
 use Rattle.std.proofs.lemmas.Result.{err_from_is_err_and}
 use Rattle.std.specs.declared.ops.ControlFlow.TheVariants.{Break, Continue}
 use Rattle.bstr.specs.Owned.{bstring_bytes}
-use Rattle.gixobj_entries.specs.Entries.{EntryView}
+use Rattle.gixobj_tree_entries.specs.Entries.{EntryView}
 use Rattle.gixobj_store.proofs.Paths.{follows_nil, follows_snoc}
 use Rattle.gixobj_store.proofs.Steps.{path_error_of_copy, is_at_path_none, is_at_path_found, is_step_of_reader, named_stored, names_drop_one, is_at_path_of_reader, kind_is_tree_of_step}
 use Rattle.gixobj_store.specs.Lookups.{IsAtPath, remaining_tree}

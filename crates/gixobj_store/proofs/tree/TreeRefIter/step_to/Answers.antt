@@ -1,6 +1,6 @@
 use Rattle.std.proofs.Common.{◌≡◌, ◌≢◌, ◌∷◌, [], Bool, List, ap, refl, subst, sym}
 use Rattle.std.specs.Prelude.{MatchBool}
-use Rattle.gixobj_entries.specs.EntryViews.{entry_view}
+use Rattle.gixobj_tree_entries.specs.EntryViews.{entry_view}
 use Rattle.gixobj_store.specs.EntrySteps.{remaining_tree_bytes}
 use Rattle.gixobj_store.specs.Lookups.{HasNoEntryNamed, Name}
 use Rattle.gixobj_store.proofs.tree.TreeRefIter.step_to.Goals as goal

@@ -1,5 +1,5 @@
-use Rattle.gixobj_entries.proofs.EntryRuns as runs
-use Rattle.gixobj_entries.proofs.OneEntry as entries
+use Rattle.gixobj_tree_entries.proofs.EntryRuns as runs
+use Rattle.gixobj_tree_entries.proofs.OneEntry as entries
 use Rattle.gixobj_tree.proofs.laws.trees.tree_decodes_uniquely.Goals as goal
 
 pub returns-clause-one_entry : goal.returns-clause-one_entry

@@ -2,7 +2,7 @@
 use Rattle.std.proofs.Common.{◌∙◌, ◌+◌, ◌-◌, ◌/◌, ◌<◌, Less, Equal, Greater, length, sym, subst, arith}
 use Rattle.gixobj_tree.proofs.BinarySearch.{IsNarrowed, compared, looked, narrowed_all, narrowed_down, narrowed_none, narrowed_up}
 use Rattle.gixobj_tree.proofs.tree.borrowed.position_of.Goals as goal
-use Rattle.gixobj_entries.specs.EntryViews.{entry_view}
+use Rattle.gixobj_tree_entries.specs.EntryViews.{entry_view}
 
 pub loop-low-init : goal.loop-low-init
 loop-low-init c = record {

@@ -1,6 +1,6 @@
 -- The name can be only among the remaining entries.
 use Rattle.std.proofs.Common.{◌≤◌, ◌-◌, length}
-use Rattle.gixobj_entries.specs.EntryViews.{entry_view}
+use Rattle.gixobj_tree_entries.specs.EntryViews.{entry_view}
 use Rattle.gixobj_tree.proofs.BinarySearch.{IsNarrowed, compared}
 use Rattle.gixobj_tree.proofs.tree.borrowed.position_of.Given as goal
 

@@ -2,7 +2,7 @@ use Rattle.std.proofs.Common.{rules}
 use Rattle.std.specs.Ordering.{is_lt, nat_cmp}
 use Rattle.std.specs.Cmp.Lexicographic.{slice_cmp}
 use Rattle.std.proofs.lemmas.Fn.{always_returns_same}
-use Rattle.gixobj_entries.specs.KeyOrder.{ComesBefore, entry_key}
+use Rattle.gixobj_tree_entries.specs.KeyOrder.{ComesBefore, entry_key}
 use Rattle.gixobj_tree.specs.WellFormed.{EachLater}
 use Rattle.gixobj_tree.proofs.WellFormed.{each_later_of_test, iff_of_test}
 use Rattle.gixobj_tree.proofs.tree.well_formed.ascend.Goals as goal

@@ -2,7 +2,7 @@ use Rattle.std.proofs.Common.{rules}
 use Rattle.std.specs.Ordering.{nat_cmp}
 use Rattle.std.specs.Cmp.Lexicographic.{slice_cmp}
 use Rattle.std.proofs.lemmas.Fn.{always_returns_same}
-use Rattle.gixobj_entries.specs.KeyOrder.{entry_key}
+use Rattle.gixobj_tree_entries.specs.KeyOrder.{entry_key}
 use Rattle.gixobj_tree.specs.WellFormed.{HasKey}
 use Rattle.gixobj_tree.proofs.WellFormed.{has_key_of_test, iff_of_test}
 use Rattle.gixobj_tree.proofs.tree.well_formed.has_key.Goals as goal

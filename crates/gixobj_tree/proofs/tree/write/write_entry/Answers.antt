@@ -2,9 +2,9 @@
 use Rattle.std.proofs.Common.{rules}
 use Rattle.std.proofs.lemmas.Result.{err_from_is_err_and}
 use Rattle.gixobj_hash.specs.Hash.Borrowed.{borrowed_id}
-use Rattle.gixobj_entries.specs.Mode.{mode_bits}
+use Rattle.gixobj_tree_entries.specs.Mode.{mode_bits}
 use Rattle.gixobj_tree.proofs.TreeWrites.{appends_prefix_of_entry, appends_all_of_entry, appends_prefix_of_mode, entry_error_of_copy}
-use Rattle.gixobj_entries.specs.Entries.{entry_of}
+use Rattle.gixobj_tree_entries.specs.Entries.{entry_of}
 use Rattle.gixobj_tree.proofs.tree.write.write_entry.Goals as goal
 
 pub returns-in_err-write_mode-clause-error : goal.returns-in_err-write_mode-clause-error

@@ -1,7 +1,7 @@
 -- The directory at the prefix is open for every store.
 use Rattle.std.proofs.Common.{◌≢◌, None, ap, refl}
 use denote.Ref.{at_last}
-use Rattle.gixobj_files.specs.State.{open_dirs, with_store}
+use Rattle.gixobj_editor_files.specs.State.{open_dirs, with_store}
 use Rattle.gixobj_editor.specs.declared.editor.cursor.Cursor.{Cursor}
 use Rattle.gixobj_editor.proofs.editor.cursor.Cursor.store_mut.Goals as goal
 

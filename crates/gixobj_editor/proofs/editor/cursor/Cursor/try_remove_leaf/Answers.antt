@@ -1,14 +1,14 @@
 -- The editor's own edit, at the path from the root.
 use Rattle.std.proofs.Common.{◌≡◌, ◌∙◌, OnErr, ap, subst, sym}
 use Rattle.std.proofs.lemmas.Result.{MatchResult-weaker}
-use Rattle.gixobj_files.specs.Files.{Path}
-use Rattle.gixobj_open.specs.Paths.{names_of}
-use Rattle.gixobj_open.proofs.Results.{if_err_weaken}
+use Rattle.gixobj_editor_files.specs.Files.{Path}
+use Rattle.gixobj_editor_open.specs.Paths.{names_of}
+use Rattle.gixobj_editor_open.proofs.Results.{if_err_weaken}
 use Rattle.gixobj_store.specs.Stores.{StoreModel}
-use Rattle.gixobj_directories.specs.declared.error.Error.{Error}
-use Rattle.gixobj_directories.specs.EditNames.{from_root, StartsInvalid}
+use Rattle.gixobj_editor_lookups.specs.declared.error.Error.{Error}
+use Rattle.gixobj_editor_lookups.specs.EditNames.{from_root, StartsInvalid}
 use Rattle.gixobj_editor.specs.Removals.{IsLeafRemoved}
-use Rattle.gixobj_directories.specs.FailedOpenings.{IsLookupError}
+use Rattle.gixobj_editor_lookups.specs.FailedOpenings.{IsLookupError}
 use Rattle.gixobj_editor.specs.FailedEdits.{IsAfterFailedEdit}
 use Rattle.gixobj_editor.proofs.CursorPrefixes.{Stays, known_of_either, edit_failure_unchanged, stays_failed, stays_removed}
 use Rattle.gixobj_editor.proofs.editor.cursor.Cursor.try_remove_leaf.Goals as goal

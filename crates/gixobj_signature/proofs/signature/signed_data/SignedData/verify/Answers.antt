@@ -1,7 +1,7 @@
 use Rattle.std.proofs.Common.{List, ℕ, None, Some, refl, subst, sym}
 use Rattle.bstr.specs.BStr.{bstr_bytes}
 use Rattle.gixobj_signature.specs.Plans.{IsCarriedOut, Plan}
-use Rattle.gixobj_fields.specs.Markers.{BeginsWithNoMarker}
+use Rattle.gixobj_parse.specs.Markers.{BeginsWithNoMarker}
 use Rattle.gixobj_signature.specs.SignedBytes.{signed_bytes}
 use Rattle.gixobj_signature.specs.Verifiers.{verify_options_view}
 use Rattle.gixobj_signature.specs.Verifying.{VerifyOutcome, unsupported}

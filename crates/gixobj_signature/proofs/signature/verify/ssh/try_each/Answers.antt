@@ -1,10 +1,10 @@
 use Rattle.std.proofs.Common.{rules, ◌≡◌, sym, subst, map, None, Result, Err}
 use Rattle.std.specs.Option.{option_map}
 use Rattle.bstr.specs.Owned.{bstring_bytes}
-use Rattle.gixobj_report.specs.Calls.{output_view}
+use Rattle.gixobj_signature_reports.specs.Calls.{output_view}
 use Rattle.gixobj_signature.specs.Plans.{IsCarriedOut}
-use Rattle.gixobj_report.specs.Outcomes.{outcome_view}
-use Rattle.gixobj_report.specs.declared.report.Outcome.{Outcome}
+use Rattle.gixobj_signature_reports.specs.Outcomes.{outcome_view}
+use Rattle.gixobj_signature_reports.specs.declared.report.Outcome.{Outcome}
 use Rattle.gixobj_signature.specs.SignedBytes.{signed_bytes}
 use Rattle.gixobj_signature.specs.Verifiers.{ssh_of, ssh_program_of}
 use Rattle.gixobj_signature.specs.Verifying.{error_view, reported, tries, verify_view}

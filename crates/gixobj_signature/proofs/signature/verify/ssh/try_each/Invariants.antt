@@ -1,7 +1,7 @@
 use Rattle.std.proofs.Common.{drop, map, None}
 use Rattle.std.specs.Option.{option_map}
 use Rattle.bstr.specs.Owned.{bstring_bytes}
-use Rattle.gixobj_report.specs.Calls.{output_view}
+use Rattle.gixobj_signature_reports.specs.Calls.{output_view}
 use Rattle.gixobj_signature.specs.Plans.{IsRemainingPlan}
 use Rattle.gixobj_signature.specs.SignedBytes.{signed_bytes}
 use Rattle.gixobj_signature.specs.Verifiers.{ssh_of, ssh_program_of}

@@ -1,7 +1,7 @@
 use Rattle.std.proofs.Common.{rules, ◌≡◌, sym, subst, inr, cond, None, [], Result, Err}
-use Rattle.gixobj_report.specs.Calls.{output_view, ran}
+use Rattle.gixobj_signature_reports.specs.Calls.{output_view, ran}
 use Rattle.gixobj_signature.specs.Plans.{IsCarriedOut}
-use Rattle.gixobj_report.specs.declared.report.Outcome.{Outcome}
+use Rattle.gixobj_signature_reports.specs.declared.report.Outcome.{Outcome}
 use Rattle.gixobj_signature.specs.SignedBytes.{signed_bytes}
 use Rattle.gixobj_signature.specs.Verifiers.{ssh_of, ssh_program_of}
 use Rattle.gixobj_signature.specs.Verifying.{principals_in, error_view, ssh_verify_plan, tries, verify_view}

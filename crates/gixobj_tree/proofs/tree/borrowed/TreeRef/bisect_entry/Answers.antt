@@ -5,8 +5,8 @@ use Rattle.std.specs.List.Sorted.{IsBinarySearchResult, IsSearchInRange}
 use Rattle.bstr.specs.BStr.{bstr_bytes}
 use Rattle.gixobj_tree.proofs.BinarySearch.{compared, found_equal, found_in, found_key, none_of_key}
 use Rattle.gixobj_tree.proofs.tree.borrowed.TreeRef.bisect_entry.Goals as goal
-use Rattle.gixobj_entries.specs.EntryViews.{entry_view}
-use Rattle.gixobj_entries.specs.declared.entry_ref.EntryRef.{EntryRef}
+use Rattle.gixobj_tree_entries.specs.EntryViews.{entry_view}
+use Rattle.gixobj_tree_entries.specs.declared.entry_ref.EntryRef.{EntryRef}
 
 pub returns-in-Ok-clause-found : goal.returns-in-Ok-clause-found
 returns-in-Ok-clause-found c =

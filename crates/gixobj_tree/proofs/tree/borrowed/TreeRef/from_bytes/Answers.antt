@@ -1,9 +1,9 @@
 use Rattle.std.proofs.Common.{map, rules}
 use Rattle.std.proofs.lemmas.Grind.{common_steps}
 use Rattle.std.proofs.lemmas.Result.{err_from_is_err_and}
-use Rattle.gixobj_entries.proofs.EntryRuns.{first_entry_exists, malformed_tree_of_no_entry, begins_with_entries_of_views, decodes_to_tree_at_end}
+use Rattle.gixobj_tree_entries.proofs.EntryRuns.{first_entry_exists, malformed_tree_of_no_entry, begins_with_entries_of_views, decodes_to_tree_at_end}
 use Rattle.gixobj_tree.proofs.tree.borrowed.TreeRef.from_bytes.Goals as goal
-use Rattle.gixobj_entries.specs.EntryViews.{entry_view}
+use Rattle.gixobj_tree_entries.specs.EntryViews.{entry_view}
 
 pub returns-in_default-clause-error : goal.returns-in_default-clause-error
 returns-in_default-clause-error c = malformed_tree_of_no_entry c.args.hash_kind c.args.bytes.now c.loop-rest.rest.now (map entry_view c.loop-rest.entries.items)

@@ -1,8 +1,8 @@
 -- The consumed input is the entries so far, and the rest remains.
 use Rattle.std.proofs.Common.{length, map}
-use Rattle.gixobj_entries.proofs.EntryRuns.{BeginsWithEntries}
+use Rattle.gixobj_tree_entries.proofs.EntryRuns.{BeginsWithEntries}
 use Rattle.gixobj_tree.proofs.tree.borrowed.TreeRef.from_bytes.Given as goal
-use Rattle.gixobj_entries.specs.EntryViews.{entry_view}
+use Rattle.gixobj_tree_entries.specs.EntryViews.{entry_view}
 
 abbrev pub invariant-loop-rest : goal.invariant-loop-rest
 invariant-loop-rest l = BeginsWithEntries l.hash_kind l.bytes (map entry_view l.entries.items) l.rest

@@ -1,7 +1,7 @@
 use Rattle.std.proofs.Common.{◌∙◌}
 use Rattle.gixobj_tree.proofs.Viewed.{take_map_view_snoc}
 use Rattle.gixobj_tree.proofs.tree.borrowed.TreeRef.to_owned.Goals as goal
-use Rattle.gixobj_entries.specs.EntryViews.{entry_view}
+use Rattle.gixobj_tree_entries.specs.EntryViews.{entry_view}
 
 pub loop-entry-preserved : goal.loop-entry-preserved
 loop-entry-preserved c = (

@@ -3,7 +3,7 @@ use Rattle.std.proofs.Common.{◌∙◌, ap, arith, length, sym}
 use Rattle.gixobj_hash.specs.Hash.{id_bytes}
 use Rattle.gixobj_tree.proofs.TreeWrites.{no_overflow_of_size, tree_len_take_succ}
 use Rattle.gixobj_tree.proofs.tree.write.TreeWriteTo.size.Goals as goal
-use Rattle.gixobj_entries.specs.Entries.{EntryView}
+use Rattle.gixobj_tree_entries.specs.Entries.{EntryView}
 
 pub loop-entry-preserved : goal.loop-entry-preserved
 loop-entry-preserved c = (

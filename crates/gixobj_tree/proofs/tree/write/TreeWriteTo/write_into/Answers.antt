@@ -4,7 +4,7 @@ use Rattle.std.proofs.lemmas.Result.{err_from_is_err_and}
 use Rattle.gixobj_streams.proofs.Appends.{appends_all_append}
 use Rattle.gixobj_tree.proofs.TreeWrites.{are_free_take_succ, lacks_room_at_entry, no_error_of_free_tree, writing_error_at_entry, encode_tree_take_succ}
 use Rattle.gixobj_tree.proofs.tree.write.TreeWriteTo.write_into.Goals as goal
-use Rattle.gixobj_entries.specs.EntryViews.{entry_view}
+use Rattle.gixobj_tree_entries.specs.EntryViews.{entry_view}
 
 pub loop-entry-preserved : goal.loop-entry-preserved
 loop-entry-preserved g c =

@@ -4,7 +4,7 @@ use Rattle.gixobj_tree.proofs.TreeWrites.{no_overflow_of_tree}
 use Rattle.gixobj_tree.proofs.Viewed.{map_view_at, map_view_index_lt}
 use Rattle.gixobj_tree.proofs.WrittenTrees.{encode_tree_len_take_succ}
 use Rattle.gixobj_tree.proofs.tree.borrowed.write.TreeRefWriteTo.size.Goals as goal
-use Rattle.gixobj_entries.specs.EntryViews.{entry_view}
+use Rattle.gixobj_tree_entries.specs.EntryViews.{entry_view}
 
 pub returns-in_err-size : goal.returns-in_err-size
 returns-in_err-size c =

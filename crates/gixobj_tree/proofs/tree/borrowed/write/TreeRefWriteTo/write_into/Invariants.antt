@@ -4,7 +4,7 @@ use Rattle.gixobj_streams.specs.Streams.{AppendsAll}
 use Rattle.gixobj_tree.proofs.TreeWrites.{AreFree}
 use Rattle.gixobj_tree.specs.TreeEncoding.{encode_tree}
 use Rattle.gixobj_tree.proofs.tree.borrowed.write.TreeRefWriteTo.write_into.Given as goal
-use Rattle.gixobj_entries.specs.EntryViews.{entry_view}
+use Rattle.gixobj_tree_entries.specs.EntryViews.{entry_view}
 
 abbrev pub invariant-loop-entry : goal.invariant-loop-entry
 invariant-loop-entry g l =

@@ -1,6 +1,0 @@
-use Rattle.std.proofs.Common.{inl}
-use Rattle.gixobj_files.proofs.NullIds.{is_null_true}
-use Rattle.gixobj_audits.proofs.canonical.is_looked_up.Goals as goal
-
-pub returns-then-is_null : goal.returns-then-is_null
-returns-then-is_null c = ((λ f. absurd (cc f)), λ h. absurd (h (inl (is_null_true c.args.id (c.is_null.ensures.0 c.if-is_null.true)))))

@@ -1,5 +1,0 @@
-use Rattle.gixobj_audits.proofs.OneTree.{equal_ids_iff_same_files}
-use Rattle.gixobj_audits.proofs.mirrors.laws.equal_files_have_equal_ids.Goals as goal
-
-pub returns : goal.returns
-returns c = equal_ids_iff_same_files

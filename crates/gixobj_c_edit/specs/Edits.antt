@@ -1,0 +1,185 @@
+-- Results of the call that edits stored trees by a script.
+use Rattle.std.specs.Prelude.{◌≡◌, ◌<◌, ◌+◌, ◌++◌, ◌∷◌, ◌⊎◌, ℕ, All, List, [], None, Option, Some, length, map, take}
+use Rattle.std.specs.List.{flat_map}
+use Rattle.gixobj_c_codes.specs.Buffers.{HasPrefix, WritesTwo}
+use Rattle.gixobj_c_codes.specs.Codes.{buffer_too_short, not_found, unknown_code}
+use Rattle.gixobj_editor_write.specs.declared.write.Written.{Written}
+use Rattle.gixobj_c_edit.specs.Failures.{failure_status}
+use Rattle.gixobj_c_edit.specs.Frames.{AreFrames, IsFramesError, encode_frame, objects_of}
+use Rattle.gixobj_c_edit.specs.Replies.{AreDone, IsFirstFailure}
+use Rattle.gixobj_c_edit.specs.Roots.{IsRootError, IsRootOf}
+use Rattle.gixobj_c_edit.specs.declared.failure.Failure.{Failure}
+use Rattle.gixobj_c_edit.specs.declared.failure.Failure.TheVariants as failure
+use Rattle.gixobj_editor.specs.Commands.{Location, accepted_steps, at_cursor, at_root, emitted_pairs, path_at, written_at}
+use Rattle.gixobj_editor.specs.Cursors.{cursor_path}
+use Rattle.gixobj_editor.specs.Replies.{IsRun}
+use Rattle.gixobj_editor.specs.RunTables.{AgreesWithRun}
+use Rattle.gixobj_editor_commands.specs.Views.{CommandView, EditView, command_view, edits_at, one_edit, remove, remove_leaf, set_root, upsert, write}
+use Rattle.gixobj_editor_commands.specs.declared.command.Command.{Command}
+use Rattle.gixobj_editor_commands.specs.declared.command.Command.TheVariants as command
+use Rattle.gixobj_editor_commands.specs.declared.command.Edit.TheVariants as edit
+use Rattle.gixobj_editor.specs.declared.reply.EditReply.TheVariants as edit_reply
+use Rattle.gixobj_editor.specs.declared.reply.Reply.{Reply}
+use Rattle.gixobj_editor.specs.declared.reply.Reply.TheVariants as reply
+use Rattle.gixobj_streams.specs.declared.encode.Error.{Error}
+use Rattle.gixobj_editor_files.specs.Bases.{HasBases}
+use Rattle.gixobj_editor_files.specs.Files.{Files, NamedFiles, SameFiles, Table}
+use Rattle.gixobj_editor_files.specs.History.{FilesAfter, Step}
+use Rattle.gixobj_editor_files.specs.History as history
+use Rattle.gixobj_editor_files.specs.State.{EditorFiles, State, new_state, open_bases, open_dirs}
+use Rattle.gixobj_editor_files.specs.Tables.{AgreesWithPairs}
+use Rattle.gixobj_hash.specs.Hash.{id_bytes}
+use Rattle.gixobj_hash.specs.declared.hash.kind.Kind.{Kind}
+use Rattle.gixobj_hash.specs.declared.hash.object_id.ObjectId.{ObjectId}
+use Rattle.gixobj_store_keep.specs.Memory.{memory_objects}
+use Rattle.gixobj_store_keep.specs.declared.memory.Memory.{Memory}
+use Rattle.gixobj_tree_entries.specs.Mode.{mode_of_kind}
+use Rattle.gixobj_cli_edit.specs.Edits.{IsScriptRunError, memory_model}
+use Rattle.gixobj_editor_commands.specs.Scripts.{IsFirstBad, IsScript}
+use Rattle.gixobj_editor_commands.specs.declared.script.ScriptError.TheVariants as parsing
+use Rattle.gixobj_tree_entries.specs.Entries.{EntryView}
+use Rattle.gixobj_tree.specs.TreeEncoding.{IsDigestResult, IsEncodableTree}
+
+-- ---- the run
+
+-- the write of the root that follows the commands of the script
+abbrev pub write_of_root : Command
+write_of_root = command.Edit edit.Write
+
+-- the script decodes to commands, and these are all of them and then a write of the root
+abbrev pub IsCommandsOf : Kind → List ℕ → List Command → Type 0
+IsCommandsOf hash script all = (commands : List Command) × (all ≡ commands ++ write_of_root ∷ [])
+    × IsScript hash script (map command_view commands)
+
+-- an editor of the root over a store of the stored trees; its files are those of the root
+pub record IsStart (hash : Kind) (trees root : List ℕ) (state : State Memory) : Type 0 where
+  pub contents : List (List ℕ)
+  pub given : AreFrames trees contents
+  pub entries : List EntryView
+  pub rooted : IsRootOf (objects_of hash contents) hash root entries
+  pub store : Memory
+  pub holds : memory_objects store ≡ objects_of hash contents
+  pub state_is : state ≡ new_state entries store hash
+  pub has_bases : (T : Table) → HasBases T (open_dirs state) (open_bases state)
+  pub files : (T : Table) (n : ℕ) → SameFiles (EditorFiles T n state) (Files T n entries)
+
+-- the commands may get these replies
+abbrev pub HasRun : Kind → State Memory → List Command → List (Reply Error) → Type 0
+HasRun hash state commands replies = (new : State Memory)
+    × IsRun memory_model (IsDigestResult hash) state commands replies new
+
+-- each written root has the files that the accepted commands before it make, in each table that agrees with the trees
+abbrev pub HasFilesOfWrites : State Memory → List Command → List (Reply Error) → Type 0
+HasFilesOfWrites state commands replies = (T : Table) (n k : ℕ) (written : Written)
+    → written_at replies k ≡ Some written → AgreesWithRun T (memory_objects state.store) (take k replies)
+    → AgreesWithPairs T written.trees.items → HasBases T (open_dirs state) (open_bases state)
+    → SameFiles (NamedFiles T n written.id)
+    (FilesAfter T n (accepted_steps (take k commands) (take k replies)) (EditorFiles T n state))
+
+-- the script's commands and a write of the root were run on the stored trees, and got these replies
+pub record IsRunOf (hash : Kind) (trees root script : List ℕ) (replies : List (Reply Error)) : Type 0 where
+  pub commands : List Command
+  pub decodes : IsScript hash script (map command_view commands)
+  pub state : State Memory
+  pub start : IsStart hash trees root state
+  pub ran : HasRun hash state (commands ++ write_of_root ∷ []) replies
+
+-- ---- success
+
+-- the step of an edit at this location; a write has none
+abbrev pub edit_steps : Location → EditView → List Step
+edit_steps location (upsert names kind id) = history.upsert (path_at location names) (mode_of_kind kind) id ∷ []
+edit_steps location (remove names) = history.remove (path_at location names) ∷ []
+edit_steps location (remove_leaf names) = history.remove (path_at location names) ∷ []
+edit_steps location write = []
+
+-- the steps of a command: those of edits in a directory come after it is ensured
+abbrev pub command_steps : CommandView → List Step
+command_steps (one_edit it) = edit_steps at_root it
+command_steps (edits_at names edits) =
+    history.ensure (cursor_path names) ∷ flat_map (edit_steps (at_cursor (cursor_path names))) edits
+command_steps (set_root entries) = history.set_root entries ∷ []
+
+-- the id names a tree with exactly the files that these commands make of those of a root, at every depth
+abbrev pub HasFilesAfter : Table → List Command → List EntryView → ObjectId → Type 0
+HasFilesAfter T commands entries id = (n : ℕ) → SameFiles (NamedFiles T n id)
+    (FilesAfter T n (flat_map command_steps (map command_view commands)) (Files T n entries))
+
+-- all commands are done, and the write after them; these are the frames of the trees that all writes emitted, in order,
+-- and the id of the last root
+pub record IsEmitted (all : List (Reply Error)) (frames id : List ℕ) : Type 0 where
+  pub replies : List (Reply Error)
+  pub written : Written
+  pub joined : all ≡ replies ++ reply.Edit (edit_reply.Written written) ∷ []
+  pub done : AreDone replies
+  pub framed : frames ≡ flat_map encode_frame (emitted_pairs all)
+  pub named : id ≡ id_bytes written.id
+
+-- the run's commands are done, and it emitted these trees. The last root has exactly the files that the script's
+-- commands make of those of the root, at every depth, in each table that agrees with the run: it has the stored trees,
+-- and the emitted ones as the store keeps them. Likewise each earlier root has those of the commands before its write
+pub record IsEdited (hash : Kind) (trees root script frames id : List ℕ) : Type 0 where
+  pub all : List (Reply Error)
+  pub run : IsRunOf hash trees root script all
+  pub emitted : IsEmitted all frames id
+  pub files : (T : Table) → AgreesWithRun T (objects_of hash run.start.contents) emitted.replies
+      → AgreesWithPairs T emitted.written.trees.items
+      → HasFilesAfter T run.commands run.start.entries emitted.written.id
+  pub earlier : (T : Table) (k : ℕ) (it : Written) → written_at emitted.replies k ≡ Some it
+      → AgreesWithRun T (objects_of hash run.start.contents) (take k emitted.replies)
+      → AgreesWithPairs T it.trees.items → HasFilesAfter T (take k run.commands) run.start.entries it.id
+
+-- ---- failure
+
+-- if all commands are done, then no name of an emitted tree is rejected
+abbrev pub AreEncodableIfDone : List (Reply Error) → Type 0
+AreEncodableIfDone all = AreDone all → All (λ pair. IsEncodableTree pair.1) (emitted_pairs all)
+
+-- why a script has no commands: its first bad line; or out of memory, for a command before any bad line, or if no line
+-- is bad
+abbrev pub IsScriptFailure : Kind → List ℕ → Failure → ℕ → Type 0
+IsScriptFailure hash script it number = ((it ≡ failure.BadLine) × IsFirstBad hash script number)
+    ⊎ ((it ≡ failure.OutOfMemory) × IsScriptRunError hash script parsing.OutOfMemory)
+
+-- why there is no editor: the bytes are no frames, or there is no root
+abbrev pub IsStartError : Kind → List ℕ → List ℕ → Failure → ℕ → Type 0
+IsStartError hash trees root it number = (number ≡ 0) × (IsFramesError trees it
+    ⊎ ((contents : List (List ℕ)) × AreFrames trees contents × IsRootError (objects_of hash contents) hash root it))
+
+-- why the replies have no new trees: the first command that failed, by its number from 1, where the write after them
+-- counts as a command; or out of memory for the frames, after all are done
+abbrev pub IsRepliesError : List (Reply Error) → Failure → ℕ → Type 0
+IsRepliesError all it number = ((index : ℕ) × IsFirstFailure all index it × (number ≡ index + 1))
+    ⊎ (AreDone all × (it ≡ failure.OutOfMemory) × (number ≡ length all))
+
+-- why there are no new trees: the script, the stored trees, the root, a command or the write; or out of memory
+abbrev pub IsEditError : Kind → List ℕ → List ℕ → List ℕ → Failure → ℕ → Type 0
+IsEditError hash trees root script it number = IsScriptFailure hash script it number
+    ⊎ (IsStartError hash trees root it number
+    ⊎ ((replies : List (Reply Error)) × IsRunOf hash trees root script replies × IsRepliesError replies it number))
+
+-- the number of the failure is written, and its status returned. The id of a missing tree is written, if the buffer is
+-- long enough
+abbrev pub WritesFailure : Failure → ℕ → List ℕ → List ℕ → ℕ → ℕ → ℕ → ℕ → Type 0
+WritesFailure (failure.NotFound missing) number before after len_before len written status =
+    (written ≡ number) × (len ≡ length (id_bytes missing))
+    × (((status ≡ not_found) × HasPrefix (id_bytes missing) before after)
+    ⊎ ((status ≡ buffer_too_short) × (length before < length (id_bytes missing)) × (after ≡ before)))
+WritesFailure it number before after len_before len written status =
+    (written ≡ number) × (len ≡ len_before) × (status ≡ failure_status it) × (after ≡ before)
+
+-- ---- the call
+
+-- the new trees and the id of the root are written; or the number of the failure, and the id of a missing tree
+abbrev pub IsEditCall : Option Kind → List ℕ → List ℕ → List ℕ → List ℕ → List ℕ → ℕ → ℕ → List ℕ → List ℕ → ℕ → ℕ
+    → ℕ → ℕ → ℕ → Type 0
+IsEditCall (Some hash) trees root script before after len_before len id_before id_after id_len_before id_len
+    number_before number status =
+    ((frames id : List ℕ) × IsEdited hash trees root script frames id
+    × WritesTwo frames before after len id id_before id_after id_len status × (number ≡ number_before))
+    ⊎ ((it : Failure) × (at : ℕ) × IsEditError hash trees root script it at
+    × WritesFailure it at id_before id_after id_len_before id_len number status × (after ≡ before)
+    × (len ≡ len_before))
+IsEditCall None trees root script before after len_before len id_before id_after id_len_before id_len number_before
+    number status = (status ≡ unknown_code) × (after ≡ before) × (len ≡ len_before) × (id_after ≡ id_before)
+    × (id_len ≡ id_len_before) × (number ≡ number_before)

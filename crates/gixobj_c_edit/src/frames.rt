@@ -1,0 +1,177 @@
+//! Trees as loose objects without compression, one after another: each is a frame (gitformat-loose).
+ghost use Rattle.std.specs.Prelude.{◌≡◌, ◌++◌, ℕ, IfErr, IfNone, IfOk, IfSome, OnOk, Some};
+ghost use Rattle.std.specs.List.{flat_map};
+ghost use Rattle.gixobj_c_edit.specs.Frames.{BeginsWithFrame, NextFrame, HoldsFrames, IsFrameError, IsFramesEncodeError, IsFramesError, encode_frame, encode_tree_frame};
+ghost use Rattle.gixobj_editor.specs.Commands.{emitted_pairs, pairs_of, pairs_of_edit};
+ghost use Rattle.gixobj_hash.specs.Runs.{HasNoPiece};
+ghost use Rattle.gixobj_hash.specs.Decode.{HasLooseHeaderOfLength};
+ghost use Rattle.gixobj_hash.specs.declared.kind.Kind.TheVariants as object;
+
+use crate::failure::{Failure, encode_failure};
+use gixobj_editor::{EditReply, Reply};
+use gixobj_encode::WriteTo;
+use gixobj_encode::encode::Error;
+use gixobj_hash::decode::loose_header;
+use gixobj_hash::hash::{self, ObjectId};
+use gixobj_hash::{Kind, encode};
+use gixobj_store_keep::Memory;
+use gixobj_tree::Tree;
+use std::alloc::Global;
+
+/// Returns the size and the length of the loose header of a tree at the beginning of the input, or `None`.
+fn tree_header(alloc: Global, input: &[u8]) -> Option<(u64, usize)>
+    ensures found { IfSome result (λ it. HasLooseHeaderOfLength input.now object.Tree it.0 it.1) }
+    ensures accepts { (size used : ℕ) → HasLooseHeaderOfLength input.now object.Tree size used
+        → result ≡ Some (size, used) }
+{
+    let (kind, size, used) = match loose_header(alloc, input) {
+        Ok(header) => header,
+        Err(_) => return None,
+    };
+    if !kind.is_tree() {
+        return None;
+    }
+    Some((size, used))
+}
+
+/// Returns the content of the frame at the beginning of the input, and the rest, or `None` if there is no frame.
+fn split_frame(alloc: Global, input: &[u8]) -> Option<(&[u8], &[u8])>
+    ensures found { IfSome result (λ it. BeginsWithFrame input.now it.0.now it.1.now) }
+    ensures none { IfNone result (HasNoPiece NextFrame tt input.now) }
+{
+    let Some((size, used)) = tree_header(alloc, input) else {
+        return None;
+    };
+    let rest = &input[used..];
+    if size > rest.len() as u64 {
+        return None;
+    }
+    Some(rest.split_at(size as usize))
+}
+
+/// Returns a store of the trees in the frames. Allocates the store.
+///
+/// # Errors
+///
+/// - [`Failure::Malformed`] if the bytes aren't frames.
+/// - [`Failure::OutOfMemory`] if an allocation fails.
+pub fn store_of(alloc: Global, hash: hash::Kind, bytes: &[u8]) -> Result<Memory, Failure>
+    ensures found { IfOk result (HoldsFrames hash bytes.now) }
+    ensures error { IfErr result (IsFramesError bytes.now) }
+{
+    let mut store = Memory::new(alloc);
+    let mut rest = bytes;
+    'frames: while !rest.is_empty() {
+        let Some((content, after)) = split_frame(alloc, rest) else {
+            return Err(Failure::Malformed);
+        };
+        match store.insert(Kind::Tree, hash, content) {
+            Ok(_) => {}
+            Err(_) => return Err(Failure::OutOfMemory),
+        }
+        rest = after;
+    }
+    Ok(store)
+}
+
+/// Returns the frames of the trees that the writes emitted, in order, by the replies. Allocates the frames.
+///
+/// # Errors
+///
+/// - [`Failure::NotEncodable`] if a tree has a name with a zero byte.
+/// - [`Failure::OutOfMemory`] if an allocation fails.
+pub fn frames_of(alloc: Global, replies: &[Reply<Error>]) -> Result<Vec<u8>, Failure>
+    ensures found { IfOk result (λ it. it.items
+        ≡ flat_map encode_frame (emitted_pairs replies.now)) }
+    ensures error { IfErr result (IsFramesEncodeError (emitted_pairs replies.now)) }
+{
+    let mut frames = Vec::new(alloc);
+    for reply in replies {
+        append_reply(alloc, reply, &mut frames)?;
+    }
+    Ok(frames)
+}
+
+/// Appends the frames of the trees that a command's writes emitted.
+fn append_reply(alloc: Global, reply: &Reply<Error>, frames: &mut Vec<u8>) -> Result<(), Failure>
+    ensures appended { OnOk result (frames.new.items
+        ≡ frames.old.items ++ flat_map encode_frame (pairs_of reply.now)) }
+    ensures error { IfErr result (IsFramesEncodeError (pairs_of reply.now)) }
+{
+    match reply {
+        Reply::Edit(reply) => append_written(alloc, reply, frames),
+        Reply::At(replies) => append_each(alloc, replies, frames),
+        Reply::AtRefused(_) | Reply::RootSet | Reply::RootRefused => Ok(()),
+    }
+}
+
+/// Appends the frames of the trees that the writes in a directory emitted.
+fn append_each(
+    alloc: Global,
+    replies: &[EditReply<Error>],
+    frames: &mut Vec<u8>,
+) -> Result<(), Failure>
+    ensures appended { OnOk result (frames.new.items
+        ≡ frames.old.items ++ flat_map encode_frame (flat_map pairs_of_edit replies.now)) }
+    ensures error { IfErr result (IsFramesEncodeError (flat_map pairs_of_edit replies.now)) }
+{
+    for reply in replies {
+        append_written(alloc, reply, frames)?;
+    }
+    Ok(())
+}
+
+/// Appends the frames of the trees that a write emitted.
+fn append_written(
+    alloc: Global,
+    reply: &EditReply<Error>,
+    frames: &mut Vec<u8>,
+) -> Result<(), Failure>
+    ensures appended { OnOk result (frames.new.items
+        ≡ frames.old.items ++ flat_map encode_frame (pairs_of_edit reply.now)) }
+    ensures error { IfErr result (IsFramesEncodeError (pairs_of_edit reply.now)) }
+{
+    match reply {
+        EditReply::Written(written) | EditReply::NotKept(written, _, _) => {
+            append_trees(alloc, &written.trees, frames)
+        }
+        EditReply::Done | EditReply::Refused(_) | EditReply::WriteRefused(_) => Ok(()),
+    }
+}
+
+/// Appends the frames of trees, in order.
+fn append_trees(
+    alloc: Global,
+    trees: &[(ObjectId, Tree)],
+    frames: &mut Vec<u8>,
+) -> Result<(), Failure>
+    ensures appended { OnOk result (frames.new.items ≡ frames.old.items
+        ++ flat_map encode_frame trees.now) }
+    ensures error { IfErr result (IsFramesEncodeError trees.now) }
+{
+    for (_, tree) in trees {
+        append_frame(alloc, tree, frames)?;
+    }
+    Ok(())
+}
+
+/// Appends the frame of a tree.
+fn append_frame(alloc: Global, tree: &Tree, frames: &mut Vec<u8>) -> Result<(), Failure>
+    ensures appended { OnOk result (frames.new.items ≡ frames.old.items
+        ++ encode_tree_frame tree.now) }
+    ensures error { IfErr result (IsFrameError tree.now) }
+{
+    let mut bytes = Vec::new(alloc);
+    match tree.write_to_vec(alloc, &mut bytes) {
+        Ok(()) => {}
+        Err(error) => return Err(encode_failure(&error)),
+    }
+    let header = encode::loose_header(alloc, Kind::Tree, bytes.len() as u64);
+    if frames.extend_from_slice(&header).is_err() {
+        return Err(Failure::OutOfMemory);
+    }
+    if frames.extend_from_slice(&bytes).is_err() {
+        return Err(Failure::OutOfMemory);
+    }
+    Ok(())
+}

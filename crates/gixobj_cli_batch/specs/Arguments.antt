@@ -1,0 +1,26 @@
+-- The commands that the arguments of the program name.
+use Rattle.std.specs.Prelude.{◌≡◌, ℕ, List, [], ◌∷◌, codes}
+use Rattle.gix_object.specs.Hash.{DecodesToId, IsIdHex}
+use Rattle.gix_object.specs.hash.hash.object_id.ObjectId.{ObjectId}
+use Rattle.gixobj_cli_batch.specs.declared.arguments.Command.{Command}
+use Rattle.gixobj_cli_batch.specs.declared.arguments.Command.TheVariants as command
+
+-- the argument is the hex of this id
+abbrev pub IsIdArgument : List ℕ → ObjectId → Type 0
+IsIdArgument hex id = IsIdHex hex × DecodesToId hex id
+
+-- the argument is the hex of no id
+abbrev pub NamesNoId : List ℕ → Type 0
+NamesNoId hex = (id : ObjectId) → ¬ IsIdArgument hex id
+
+-- the arguments are `check`; or `log` or `ls` and an id; or `diff` and two ids
+abbrev pub NamesCommand : List (List ℕ) → Command → Type 0
+NamesCommand arguments command.Check = arguments ≡ codes "check" ∷ []
+NamesCommand arguments (command.Log id) = (hex : List ℕ) × (arguments ≡ codes "log" ∷ hex ∷ []) × IsIdArgument hex id
+NamesCommand arguments (command.List id) = (hex : List ℕ) × (arguments ≡ codes "ls" ∷ hex ∷ []) × IsIdArgument hex id
+NamesCommand arguments (command.Diff from to) = (first second : List ℕ)
+    × (arguments ≡ codes "diff" ∷ first ∷ second ∷ []) × IsIdArgument first from × IsIdArgument second to
+
+-- the arguments are those of no command
+abbrev pub NamesNoCommand : List (List ℕ) → Type 0
+NamesNoCommand arguments = (named : Command) → ¬ NamesCommand arguments named

@@ -1,0 +1,97 @@
+//! The command that the arguments of the program name.
+ghost use Rattle.std.specs.Prelude.{[], ◌∷◌, IfNone, IfSome, map};
+ghost use Rattle.std.specs.String.{string_bytes};
+ghost use Rattle.gixobj_cli_batch.specs.Arguments.{IsIdArgument, NamesCommand, NamesNoCommand, NamesNoId};
+
+use crate::fault::Fault;
+use gix_object::hash::ObjectId;
+use std::env;
+use std::rt::Env;
+
+/// A command of the program.
+#[derive(Clone, Copy)]
+pub(crate) enum Command {
+    /// The log of a commit.
+    Log(ObjectId),
+    /// The files of a commit or a tree.
+    List(ObjectId),
+    /// The changes from a commit or a tree to another.
+    Diff(ObjectId, ObjectId),
+    /// The faults of the objects.
+    Check,
+}
+
+/// Returns the command of the process. Fails with `Usage` if the arguments name none.
+pub(crate) fn process_command<R: Env + AllocGlobal>(rt: &R) -> Result<Command, Fault> {
+    let mut remaining = env::args(rt)?;
+    let _ = remaining.next();
+    let arguments: Vec<String> = remaining.collect(rt.alloc())?;
+    match command_of(arguments.as_slice()) {
+        Some(command) => Ok(command),
+        None => Err(Fault::Usage),
+    }
+}
+
+/// Returns the command that the arguments name, or `None`. An id is in hex, of either case.
+pub(crate) fn command_of(arguments: &[String]) -> Option<Command>
+    ensures found { IfSome result (NamesCommand (map string_bytes arguments.now)) }
+    ensures none { IfNone result (NamesNoCommand (map string_bytes arguments.now)) }
+{
+    match arguments {
+        [name] => command_alone(name),
+        [name, id] => command_of_id(name, id),
+        [name, from, to] => command_of_ids(name, from, to),
+        _ => None,
+    }
+}
+
+/// Returns the command that a name alone names, or `None`.
+fn command_alone(name: &String) -> Option<Command>
+    ensures found { IfSome result (NamesCommand (string_bytes name.now ∷ [])) }
+    ensures none { IfNone result (NamesNoCommand (string_bytes name.now ∷ [])) }
+{
+    if name.as_str() == "check" {
+        return Some(Command::Check);
+    }
+    None
+}
+
+/// Returns the command that a name and an id name, or `None`.
+fn command_of_id(name: &String, id: &String) -> Option<Command>
+    ensures found { IfSome result
+        (NamesCommand (string_bytes name.now ∷ string_bytes id.now ∷ [])) }
+    ensures none { IfNone result
+        (NamesNoCommand (string_bytes name.now ∷ string_bytes id.now ∷ [])) }
+{
+    let id = id_of(id)?;
+    if name.as_str() == "log" {
+        return Some(Command::Log(id));
+    }
+    if name.as_str() == "ls" {
+        return Some(Command::List(id));
+    }
+    None
+}
+
+/// Returns the command that a name and two ids name, or `None`.
+fn command_of_ids(name: &String, from: &String, to: &String) -> Option<Command>
+    ensures found { IfSome result (NamesCommand
+        (string_bytes name.now ∷ string_bytes from.now ∷ string_bytes to.now ∷ [])) }
+    ensures none { IfNone result (NamesNoCommand
+        (string_bytes name.now ∷ string_bytes from.now ∷ string_bytes to.now ∷ [])) }
+{
+    let before = id_of(from)?;
+    let after = id_of(to)?;
+    if name.as_str() == "diff" {
+        return Some(Command::Diff(before, after));
+    }
+    None
+}
+
+/// Returns the id of an argument, or `None` if it is no hex of an id.
+fn id_of(argument: &String) -> Option<ObjectId>
+    ensures found { IfSome result (IsIdArgument (string_bytes argument.now)) }
+    ensures none { IfNone result (NamesNoId (string_bytes argument.now)) }
+{
+    ObjectId::from_hex(argument.as_bytes())
+}

@@ -1,0 +1,51 @@
+//! The parts of lines.
+ghost use Rattle.std.specs.Prelude.{◌≡◌, ◌++◌, OnOk};
+ghost use Rattle.gix_object.specs.Hash.{encode_id_hex};
+ghost use Rattle.gix_object.specs.Calls.{names_of};
+ghost use Rattle.gix_object.specs.Mode.{mode_bits};
+ghost use Rattle.gixobj_cli_batch.specs.Lines.{more_path_bytes, path_bytes, printed_mode};
+
+use bstr::BString;
+use gix_object::hash::ObjectId;
+use gix_object::tree::EntryMode;
+use std::alloc::AllocError;
+
+/// Appends an id in hex.
+pub(crate) fn push_id(lines: &mut Vec<u8>, id: ObjectId) -> Result<(), AllocError>
+    ensures { OnOk result (lines.new.items ≡ lines.old.items ++ encode_id_hex id) }
+{
+    let mut hex = [0u8; 64];
+    lines.extend_from_slice(id.hex_to_buf(&mut hex).as_bytes())
+}
+
+/// Appends the mode of the kind of a mode.
+pub(crate) fn push_mode(lines: &mut Vec<u8>, mode: EntryMode) -> Result<(), AllocError>
+    ensures { OnOk result (lines.new.items ≡ lines.old.items ++ printed_mode (mode_bits mode)) }
+{
+    lines.extend_from_slice(mode.kind().as_octal_str().as_bytes())
+}
+
+/// Appends a path: names with slashes between them.
+pub(crate) fn push_path(lines: &mut Vec<u8>, path: &[BString]) -> Result<(), AllocError>
+    ensures { OnOk result (lines.new.items ≡ lines.old.items ++ path_bytes (names_of path.now)) }
+{
+    match path.split_first() {
+        Some((first, rest)) => {
+            lines.extend_from_slice(first.as_bytes())?;
+            push_names(lines, rest)
+        }
+        None => Ok(()),
+    }
+}
+
+/// Appends names, each after a slash.
+fn push_names(lines: &mut Vec<u8>, names: &[BString]) -> Result<(), AllocError>
+    ensures { OnOk result (lines.new.items
+        ≡ lines.old.items ++ more_path_bytes (names_of names.now)) }
+{
+    for name in names {
+        lines.push(b'/')?;
+        lines.extend_from_slice(name.as_bytes())?;
+    }
+    Ok(())
+}

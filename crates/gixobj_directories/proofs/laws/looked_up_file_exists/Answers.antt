@@ -1,5 +1,0 @@
-use Rattle.gixobj_directories.proofs.LookedUp.{file_looked_up}
-use Rattle.gixobj_directories.proofs.laws.looked_up_file_exists.Goals as goal
-
-pub returns : goal.returns
-returns c = file_looked_up

@@ -1,5 +1,0 @@
-use Rattle.gixobj_directories.proofs.NamedTrees.{trees_of_objects_exist}
-use Rattle.gixobj_directories.proofs.laws.store_has_tree_map.Goals as goal
-
-pub returns : goal.returns
-returns c = trees_of_objects_exist

@@ -1,5 +1,0 @@
-use Rattle.std.proofs.Common.{rules}
-use Rattle.gixobj_directories.proofs.removal.check_leaf.Goals as goal
-
-pub returns-clause-error : goal.returns-clause-error
-returns-clause-error c = search rules

@@ -1,0 +1,10 @@
+use Rattle.std.proofs.Common.{◌≡◌, take}
+use Rattle.gixobj_editor_open.specs.Paths.{AreNames, names_of}
+use Rattle.gixobj_editor_lookups.proofs.names.count_names.Given as goal
+
+-- the names so far are counted, and valid
+abbrev pub invariant-loop-name : goal.invariant-loop-name
+invariant-loop-name l = record {
+  count : l.count ≡ l.name-index;
+  names : AreNames (names_of (take l.name-index l.path));
+}

@@ -1,5 +1,0 @@
-use Rattle.std.proofs.Common.{rules}
-use Rattle.gixobj_entries.proofs.entry.EntryOrd.cmp.Goals as goal
-
-pub returns : goal.returns
-returns c = search rules

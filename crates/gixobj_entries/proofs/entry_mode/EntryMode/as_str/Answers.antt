@@ -1,5 +1,0 @@
-use Rattle.std.proofs.Common.{rules}
-use Rattle.gixobj_entries.proofs.entry_mode.EntryMode.as_str.Goals as goal
-
-pub returns-in-BlobExecutable : goal.returns-in-BlobExecutable
-returns-in-BlobExecutable c = search rules

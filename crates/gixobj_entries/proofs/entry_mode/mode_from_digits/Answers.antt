@@ -1,5 +1,0 @@
-use Rattle.std.proofs.Common.{rules}
-use Rattle.gixobj_entries.proofs.entry_mode.mode_from_digits.Goals as goal
-
-pub returns-then-digits-eq48 : goal.returns-then-digits-eq48
-returns-then-digits-eq48 c = search rules

@@ -1,5 +1,0 @@
-use Rattle.gixobj_entries.proofs.ModesRoundTrip as law
-use Rattle.gixobj_entries.proofs.laws.mode_round_trips.Goals as goal
-
-pub returns : goal.returns
-returns c = law.mode_round_trips

@@ -1,0 +1,5 @@
+use Rattle.gixobj_examples_audits.proofs.OneTree.{equal_ids_iff_same_files}
+use Rattle.gixobj_examples_audits.proofs.mirrors.laws.equal_files_have_equal_ids.Goals as goal
+
+pub returns : goal.returns
+returns c = equal_ids_iff_same_files

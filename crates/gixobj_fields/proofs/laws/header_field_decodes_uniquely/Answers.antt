@@ -1,8 +1,0 @@
-use Rattle.gixobj_fields.proofs.HeaderFields.{field_unique, header_unique}
-use Rattle.gixobj_fields.proofs.laws.header_field_decodes_uniquely.Goals as goal
-
-pub returns-clause-one_field : goal.returns-clause-one_field
-returns-clause-one_field c = field_unique
-
-pub returns-clause-one_header : goal.returns-clause-one_header
-returns-clause-one_header c = header_unique

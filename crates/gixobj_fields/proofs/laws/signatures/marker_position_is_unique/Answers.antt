@@ -1,5 +1,0 @@
-use Rattle.gixobj_fields.proofs.MarkerPlaces.{marker_place_unique}
-use Rattle.gixobj_fields.proofs.laws.signatures.marker_position_is_unique.Goals as goal
-
-pub returns : goal.returns
-returns c = marker_place_unique

@@ -1,5 +1,0 @@
-use Rattle.gixobj_fields.proofs.MarkerPlaces.{format_of_marker_unique}
-use Rattle.gixobj_fields.proofs.laws.signatures.signature_format_is_unique.Goals as goal
-
-pub returns : goal.returns
-returns c = format_of_marker_unique

@@ -1,5 +1,0 @@
-use Rattle.std.proofs.Common.{rules}
-use Rattle.gixobj_fields.proofs.signature.last_prefix.Goals as goal
-
-pub returns : goal.returns
-returns c = search rules

@@ -1,5 +1,0 @@
-use Rattle.gixobj_files.proofs.ListedTables.{table_of_pairs_exists}
-use Rattle.gixobj_files.proofs.laws.list_has_table.Goals as goal
-
-pub returns : goal.returns
-returns c = table_of_pairs_exists

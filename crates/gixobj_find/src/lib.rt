@@ -1,8 +1,0 @@
-//! Lookups of objects by kind in object stores, and writes of objects.
-#![tactic(auto)]
-
-pub mod find;
-pub mod traits;
-
-pub use gixobj_keep::write;
-pub use traits::{FindExt, HeaderExt, Write};

@@ -1,4 +1,0 @@
-use Rattle.gixobj_import.proofs.written.are_bytes.Goals as goal
-
-pub returns : goal.returns
-returns c = λ i. (c.type_inv.bytes i).fits

@@ -1,5 +1,0 @@
-use Rattle.std.proofs.Common.{rules}
-use Rattle.gixobj_line.proofs.headers.signature_field_name.Goals as goal
-
-pub returns-in-Sha1 : goal.returns-in-Sha1
-returns-in-Sha1 c = search rules

@@ -1,7 +1,0 @@
-use Rattle.gixobj_object_callers.proofs.Audited.{object_signed}
-use Rattle.gixobj_object_callers.proofs.releases.signature_signs_object.Goals as goal
-
-pub returns : goal.returns
-returns c signature signed has =
-    object_signed c.received_commits_are_signed.ensures.signed c.received_tags_are_signed.ensures c.args.kind c.args.hash_kind c.args.bytes.now signature signed
-    has

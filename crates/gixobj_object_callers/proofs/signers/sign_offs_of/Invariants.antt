@@ -1,5 +1,0 @@
-use Rattle.std.proofs.Common.{◌≡◌, Ok, map}
-use Rattle.gixobj_object_callers.proofs.signers.sign_offs_of.Given as goal
-
-abbrev pub invariant-loop-trailer : goal.invariant-loop-trailer
-invariant-loop-trailer l = l.yielded ≡ map (λ it. Ok it) l.found.items

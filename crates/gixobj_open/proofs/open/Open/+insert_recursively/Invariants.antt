@@ -1,5 +1,0 @@
-use Rattle.std.proofs.Common.{length}
-use Rattle.gixobj_open.proofs.open.Open.+insert_recursively.Given as goal
-
-abbrev pub decreases-insert_recursively : goal.decreases-insert_recursively
-decreases-insert_recursively l = length l.path.now

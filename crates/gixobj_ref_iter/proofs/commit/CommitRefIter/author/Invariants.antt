@@ -1,6 +1,0 @@
-use Rattle.gixobj_ref_iter.proofs.CommitRuns.{Searches}
-use Rattle.gixobj_ref_iter.specs.TokenSearch.{IsAuthorToken}
-use Rattle.gixobj_ref_iter.proofs.commit.CommitRefIter.author.Given as goal
-
-abbrev pub invariant-loop-item : goal.invariant-loop-item
-invariant-loop-item l = Searches IsAuthorToken l.fn.self l.item-iterator

@@ -1,6 +1,0 @@
-use Rattle.gixobj_ref_iter.proofs.CommitRuns.{Searches}
-use Rattle.gixobj_ref_iter.specs.TokenSearch.{IsMessageToken}
-use Rattle.gixobj_ref_iter.proofs.commit.CommitRefIter.message.Given as goal
-
-abbrev pub invariant-loop-answer : goal.invariant-loop-answer
-invariant-loop-answer l = Searches IsMessageToken l.fn.self l.answer-iterator

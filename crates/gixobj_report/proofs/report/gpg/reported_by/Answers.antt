@@ -1,5 +1,0 @@
-use Rattle.std.proofs.Common.{rules}
-use Rattle.gixobj_report.proofs.report.gpg.reported_by.Goals as goal
-
-pub returns-in-Several-clause-allocates : goal.returns-in-Several-clause-allocates
-returns-in-Several-clause-allocates c = search rules

@@ -1,5 +1,0 @@
-use Rattle.std.proofs.Common.{rules}
-use Rattle.gixobj_report.proofs.report.ssh.status_of.Goals as goal
-
-pub returns-then-starts_with : goal.returns-then-starts_with
-returns-then-starts_with c = search rules

@@ -1,5 +1,0 @@
-use Rattle.std.proofs.Common.{refl}
-use Rattle.gixobj_sorted.proofs.gaps.is_gap.Goals as goal
-
-pub returns : goal.returns
-returns g c = λ yes. (c.args.index, c.if-not-is_less_before.ensures refl, c.is_greater_from.ensures yes)

@@ -1,0 +1,10 @@
+pub mod Existing
+pub mod InMemory
+pub mod NeverWrites
+pub mod Writers
+pub use Rattle.gixobj_encode.specs.StreamHash
+pub use Rattle.gixobj_streams.specs.Writing
+pub use Rattle.gixobj_store_keep.specs.ExistingTrees
+pub use Rattle.gixobj_store.specs.Stores
+pub use Rattle.gixobj_tree.specs.TreeEncoding
+pub use Rattle.gixobj_tree.specs.TreeSizes

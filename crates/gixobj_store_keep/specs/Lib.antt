@@ -1,0 +1,10 @@
+pub mod ExistingTrees
+pub mod Keeping
+pub mod Memory
+pub use Rattle.gixobj_grammar.specs.Commit
+pub use Rattle.gixobj_grammar.specs.TagPrefix
+pub use Rattle.gixobj_store.specs.Stores
+pub use Rattle.gixobj_tree_entries.specs.TreeDecoding
+pub use Rattle.gixobj_tree.specs.TreeEncoding
+pub use Rattle.gixobj_tree.specs.TreeSizes
+pub use Rattle.gixobj_tree.specs.TreeViews

@@ -1,0 +1,12 @@
+use Rattle.gixobj_tokens.proofs.TagRuns.{token_run_unique, decodes_tokens_of_run}
+use Rattle.gixobj_tokens.proofs.TagTokens.{tag_token_unique}
+use Rattle.gixobj_tokens.proofs.laws.tags.tag_tokens_decode_uniquely.Goals as goal
+
+pub returns-clause-one_token : goal.returns-clause-one_token
+returns-clause-one_token c = tag_token_unique
+
+pub returns-clause-one_run : goal.returns-clause-one_run
+returns-clause-one_run c = token_run_unique
+
+pub returns-clause-decodes : goal.returns-clause-decodes
+returns-clause-decodes c = decodes_tokens_of_run
