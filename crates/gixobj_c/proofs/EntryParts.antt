@@ -1,8 +1,8 @@
 -- Positions of the parts of an entry.
-use Rattle.std.proofs.Common.{◌≡◌, ◌<◌, ◌+◌, ℕ, List, [], ◌∷◌, ◌++◌, ap, append_assoc, arith, drop, inl, inr, length, length-append, refl, subst, sym, ◌∙◌}
+use Rattle.std.proofs.Common.{◌≡◌, ◌<◌, ◌≤◌, ◌+◌, ℕ, List, [], ◌∷◌, ◌++◌, ap, append_assoc, arith, drop, inl, inr, length, length-append, refl, subst, sym, ◌∙◌}
 use Rattle.std.specs.Prelude.{Some}
 use Rattle.gixobj_c.proofs.Pieces.{piece_of_tail, rest_of_tail}
-use Rattle.gixobj_c.specs.Spans.{HasPieceBefore, IsSpanOf}
+use Rattle.gixobj_c.specs.Spans.{HasPieceBefore, IsSpanBefore}
 use Rattle.gixobj_c.specs.Trees.{IsEntryAt, IsTreeEntryCall}
 use Rattle.gixobj_c.specs.declared.trees.TreeEntry.{TreeEntry}
 use Rattle.gixobj_hash.specs.Hash.{id_bytes}
@@ -39,15 +39,20 @@ rest_of_entry hash tree offset input e rest from (content, joined, is) = rest_of
 
 pub is_entry_at_of_spans : (hash : Kind) (tree : List ℕ) (offset : ℕ) (input : List ℕ) (e : EntryView) (rest name id : List ℕ) (out : TreeEntry)
     → input ≡ drop offset tree → BeginsWithEntry hash input e rest → drop out.next tree ≡ rest → out.mode ≡ mode_value e.mode → name ≡ e.name
-    → id ≡ id_bytes e.id → IsSpanOf tree name out.name → IsSpanOf tree id out.id → IsEntryAt hash tree offset out
-is_entry_at_of_spans hash tree offset input e rest name id out from begins next mode named same name_span id_span =
+    → id ≡ id_bytes e.id → out.next ≤ length tree → IsSpanBefore tree name (length rest + length id + 1) out.name
+    → IsSpanBefore tree id (length rest) out.id → IsEntryAt hash tree offset out
+is_entry_at_of_spans hash tree offset input e rest name id out from begins next mode named same within name_span id_span =
     record {
       entry = e;
       begins = subst (λ (it : List ℕ). BeginsWithEntry hash it e (drop out.next tree)) from
           (subst (λ (it : List ℕ). BeginsWithEntry hash input e it) (sym next) begins);
+      within = within;
       mode = mode;
-      name = subst (λ (it : List ℕ). IsSpanOf tree it out.name) named name_span;
-      id = subst (λ (it : List ℕ). IsSpanOf tree it out.id) same id_span;
+      name = subst (λ (it : List ℕ). IsSpanBefore tree e.name (length it + length (id_bytes e.id) + 1) out.name) (sym next)
+          (subst (λ (it : List ℕ). IsSpanBefore tree e.name (length rest + length it + 1) out.name) same
+          (subst (λ (it : List ℕ). IsSpanBefore tree it (length rest + length id + 1) out.name) named name_span));
+      id = subst (λ (it : List ℕ). IsSpanBefore tree (id_bytes e.id) (length it) out.id) (sym next)
+          (subst (λ (it : List ℕ). IsSpanBefore tree it (length rest) out.id) same id_span);
     }
 
 pub malformed_entry_call : (hash : Kind) (tree : List ℕ) (offset : ℕ) (input : List ℕ) (before : TreeEntry) → offset < length tree → input ≡ drop offset tree

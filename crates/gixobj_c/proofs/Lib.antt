@@ -1,6 +1,7 @@
 pub mod ActorParts
 pub mod EntryParts
 pub mod ConsecutiveEntries
+pub mod CursorRuns
 pub mod HeaderCalls
 pub mod Lines
 pub mod Pieces

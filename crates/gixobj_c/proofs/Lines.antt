@@ -128,39 +128,39 @@ lines_at_value commit offset header rest it n same =
 pub is_token_of_header : (commit : List ℕ) (offset : ℕ) (header : Header) (rest : List ℕ) (token : CommitToken)
     → BeginsWithHeader (drop offset commit) header rest
     → token.kind ≡ 6 → token.name.start ≡ offset → token.name.len ≡ length header.name → token.value.start ≡ offset + length header.name + 1
-    → token.value.len ≡ length commit - length rest - token.value.start → IsTokenOfLine commit (header_line header) token
+    → token.value.len ≡ length commit - length rest - token.value.start → IsTokenOfLine commit offset (header_line header) rest token
 is_token_of_header commit offset header rest token it is_kind start len value_start value_len =
     let lines : List ℕ = encode_line it.written.first ++ flat_map encode_continuation it.written.more in
     let all = header_len commit offset header rest it in
     let less = length-drop offset commit in
-    let long : length lines ≡ token.value.len = omega (arith, all, less, value_start, value_len) in (
-      is_kind,
-      record {
-        within = omega (arith, all, less, start, len);
+    let long : length lines ≡ token.value.len = omega (arith, all, less, value_start, value_len) in
+    record {
+      bytes = lines;
+      kind = is_kind;
+      start = start;
+      name = record {
+        ends = omega (arith, all, less, start, len);
         bytes = ap (λ (n : ℕ). take token.name.len (drop n commit)) start ∙ ap (take token.name.len) (header_joined commit offset header rest it)
             ∙ take_at header.name (32 ∷ (lines ++ rest)) token.name.len (sym len);
-      },
-      (
-        lines,
-        record {
-          within = omega (arith, all, less, value_start, value_len, long);
-          bytes = ap (take token.value.len) (lines_at_value commit offset header rest it token.value.start value_start)
-              ∙ take_at lines rest token.value.len long;
-        },
-        record {
-          first = it.written.first;
-          more = it.written.more;
-          joined = refl;
-          one_line = it.written.one_line;
-          each_one_line = it.written.each_one_line;
-          decoded = it.written.value;
-        },
-      ),
-    )
+      };
+      value = record {
+        ends = omega (arith, all, less, value_start, value_len, long);
+        bytes = ap (take token.value.len) (lines_at_value commit offset header rest it token.value.start value_start)
+            ∙ take_at lines rest token.value.len long;
+      };
+      lines = record {
+        first = it.written.first;
+        more = it.written.more;
+        joined = refl;
+        one_line = it.written.one_line;
+        each_one_line = it.written.each_one_line;
+        decoded = it.written.value;
+      };
+    }
 
 -- a token of the line of a variant is one of the line that equals it
-pub is_token_of_same_line : (commit : List ℕ) (it other : Line) (token result : CommitToken) → it ≡ other → result ≡ token
-    → IsTokenOfLine commit (line_view other) token → IsTokenOfLine commit (line_view it) result
-is_token_of_same_line commit it other token result is same is_token =
-    subst (λ (it : Line). IsTokenOfLine commit (line_view it) result) (sym is) (subst (λ (it : CommitToken). IsTokenOfLine commit (line_view other) it) (sym
-    same) is_token)
+pub is_token_of_same_line : (commit : List ℕ) (offset : ℕ) (it other : Line) (rest : List ℕ) (token result : CommitToken) → it ≡ other → result ≡ token
+    → IsTokenOfLine commit offset (line_view other) rest token → IsTokenOfLine commit offset (line_view it) rest result
+is_token_of_same_line commit offset it other rest token result is same is_token =
+    subst (λ (it : Line). IsTokenOfLine commit offset (line_view it) rest result) (sym is)
+    (subst (λ (it : CommitToken). IsTokenOfLine commit offset (line_view other) rest it) (sym same) is_token)

@@ -1,7 +1,7 @@
 -- Positions of pieces in the input.
 use Rattle.std.proofs.Common.{◌≡◌, ◌≤◌, ◌+◌, ◌-◌, ℕ, List, [], ◌++◌, ◌∷◌, ap, append_assoc, arith, drop, length, length-append, refl, sym, take, ◌∙◌}
 use Rattle.std.proofs.lemmas.List.{append-nil, drop_at, take-append-drop, take_at}
-use Rattle.gixobj_c.specs.Spans.{BeginsWithPiece, HasPieceBefore, IsSpanOf}
+use Rattle.gixobj_c.specs.Spans.{BeginsWithPiece, HasPieceBefore, IsSpanAtStart, IsSpanBefore}
 use Rattle.gixobj_c.specs.declared.spans.Span.{Span}
 
 input_len : (input piece : List ℕ) (after : ℕ) (has : HasPieceBefore input piece after) → length input ≡ length has.prefix + (length piece + after)
@@ -12,25 +12,26 @@ input_len input piece after has =
 pub piece_fits : (input piece : List ℕ) (after : ℕ) → HasPieceBefore input piece after → after + length piece ≤ length input
 piece_fits input piece after has = let all = input_len input piece after has in omega (arith, all)
 
-pub is_span_of_start : (input piece : List ℕ) (after : ℕ) (span : Span) → HasPieceBefore input piece after → span.start ≡ length input - after - length piece
-    → span.len ≡ length piece → IsSpanOf input piece span
-is_span_of_start input piece after span has start len =
+pub is_span_before : (input piece : List ℕ) (after : ℕ) (span : Span) → HasPieceBefore input piece after → span.start ≡ length input - after - length piece
+    → span.len ≡ length piece → IsSpanBefore input piece after span
+is_span_before input piece after span has start len =
     let all = input_len input piece after has in
     let prefix : length has.prefix ≡ span.start = omega (arith, all, start) in
     record {
-      within = omega (arith, all, start, len);
+      ends = omega (arith, all, start, len);
       bytes = ap (λ (it : List ℕ). take span.len (drop span.start it)) has.joined
           ∙ ap (take span.len) (drop_at has.prefix (piece ++ has.rest) span.start prefix)
           ∙ take_at piece has.rest span.len (sym len);
     }
 
-pub is_span_of_prefix : (input piece : List ℕ) (span : Span) → BeginsWithPiece input piece → span.start ≡ 0 → span.len ≡ length piece
-    → IsSpanOf input piece span
-is_span_of_prefix input piece span has start len =
+pub is_span_at_start : (input piece : List ℕ) (span : Span) → BeginsWithPiece input piece → span.start ≡ 0 → span.len ≡ length piece
+    → IsSpanAtStart input piece span
+is_span_at_start input piece span has start len =
     let all : length input ≡ length (piece ++ has.rest) = ap length has.joined in
     record {
-      within = omega (arith, all, length-append piece has.rest, start, len);
-      bytes = ap (λ (n : ℕ). take span.len (drop n input)) start ∙ ap (take span.len) has.joined ∙ take_at piece has.rest span.len (sym len);
+      start = start;
+      within = omega (arith, all, length-append piece has.rest, len);
+      bytes = ap (take span.len) has.joined ∙ take_at piece has.rest span.len (sym len);
     }
 
 nil_of_len : (it : List ℕ) → length it ≡ 0 → it ≡ []

@@ -3,7 +3,7 @@ use Rattle.std.proofs.Common.{◌≡◌, ◌≤◌, ◌+◌, ◌-◌, ℕ, List,
 use Rattle.std.proofs.lemmas.List.{append-nil, length-drop}
 use Rattle.std.specs.Prelude.{Option, codes}
 use Rattle.gixobj_c.proofs.Lines.{value_of_field}
-use Rattle.gixobj_c.proofs.Pieces.{is_span_of_start, piece_of_tail, rest_of_tail}
+use Rattle.gixobj_c.proofs.Pieces.{is_span_before, piece_of_tail, rest_of_tail}
 use Rattle.gixobj_c.specs.Spans.{HasPieceBefore}
 use Rattle.gixobj_c.specs.Tags.{BeginsWithTokenAt, HasBodyParts, IsFieldSpan}
 use Rattle.gixobj_c.specs.declared.spans.Span.{Span}
@@ -40,7 +40,7 @@ is_field_span name tag offset rest span (value, has) start len =
     record {
       value = value;
       begins = has;
-      bytes = is_span_of_start tag value (length rest + 1) span (value_of_field name tag offset value rest has) (omega (arith, all, less, start))
+      bytes = is_span_before tag value (length rest + 1) span (value_of_field name tag offset value rest has) (omega (arith, all, less, start))
           (omega (arith, all, less, start, len));
     }
 

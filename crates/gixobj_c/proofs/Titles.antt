@@ -6,7 +6,7 @@ use Rattle.bstr.specs.BStr.{bstr_bytes}
 use Rattle.bstr.specs.declared.bstr.BStr.{BStr}
 use Rattle.gixobj_c_codes.specs.Buffers.{WritesBytes}
 use Rattle.gixobj_c.specs.Messages.{IsMessageOf, IsSummaryCall}
-use Rattle.gixobj_c.specs.Spans.{BeginsWithPiece, HasPieceBefore, IsSpanOf}
+use Rattle.gixobj_c.specs.Spans.{BeginsWithPiece, HasPieceBefore, IsEmptyAt, IsSpanAtStart, IsSpanBefore}
 use Rattle.gixobj_c.specs.declared.messages.Message.{Message}
 use Rattle.gixobj_hash.specs.Optional.{bytes_if_some}
 use Rattle.gixobj_text.specs.Titles.{SplitsTitle, summary_of}
@@ -41,14 +41,14 @@ body_before_end message parts body split is = body_before message (bstr_bytes pa
 
 pub message_with_body : (message : List ℕ) (parts : MessageRef) (body : BStr) (out : Message)
     → SplitsTitle message (bstr_bytes parts.title) (bytes_if_some parts.body)
-    → parts.body ≡ Some body → out.has_body ≡ 1 → IsSpanOf message (bstr_bytes parts.title) out.title → IsSpanOf message (bstr_bytes body) out.body
+    → parts.body ≡ Some body → out.has_body ≡ 1 → IsSpanAtStart message (bstr_bytes parts.title) out.title → IsSpanBefore message (bstr_bytes body) 0 out.body
     → IsMessageOf message out
 message_with_body message parts body out split is has title span =
     inr (has, (bstr_bytes parts.title, bstr_bytes body, title, span, split_of message parts (Some body) split is))
 
 pub message_without_body : (message : List ℕ) (parts : MessageRef) (out : Message) → SplitsTitle message (bstr_bytes parts.title) (bytes_if_some parts.body)
-    → parts.body ≡ None → out.has_body ≡ 0 → IsSpanOf message (bstr_bytes parts.title) out.title → IsMessageOf message out
-message_without_body message parts out split is has title = inl (has, (bstr_bytes parts.title, title, split_of message parts None split is))
+    → parts.body ≡ None → out.has_body ≡ 0 → IsEmptyAt 0 out.body → IsSpanAtStart message (bstr_bytes parts.title) out.title → IsMessageOf message out
+message_without_body message parts out split is has empty title = inl (has, empty, (bstr_bytes parts.title, title, split_of message parts None split is))
 
 pub summary_call_of_written : (message title bytes before after : List ℕ) (body : Option (List ℕ)) (len_before len status : ℕ) → SplitsTitle message title body
     → bytes ≡ summary_of title → WritesBytes bytes before after len status → IsSummaryCall message before after len_before len status

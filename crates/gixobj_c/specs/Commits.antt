@@ -1,11 +1,11 @@
 -- Results of the call about the tokens of commits.
-use Rattle.std.specs.Prelude.{◌≡◌, ◌<◌, ◌++◌, ◌==◌, ◌⊎◌, ℕ, All, List, Option, Some, None, drop, if◌then◌else◌, length}
+use Rattle.std.specs.Prelude.{◌≡◌, ◌<◌, ◌≤◌, ◌+◌, ◌++◌, ◌==◌, ◌⊎◌, ℕ, All, List, Option, Some, None, drop, if◌then◌else◌, length}
 use Rattle.std.specs.List.{flat_map}
 use Rattle.gixobj_c_codes.specs.Codes.{at_end, bad_offset, done, malformed, out_of_memory, unknown_code}
-use Rattle.gixobj_c.specs.Spans.{IsSpanOf}
+use Rattle.gixobj_c.specs.Spans.{IsEmptyAt, IsSpanBefore}
 use Rattle.gixobj_c.specs.declared.commits.CommitToken.{CommitToken}
 use Rattle.gixobj_c.specs.declared.commits.Cursor.{Cursor}
-use Rattle.gixobj_hash.specs.HeaderFormat.{encode_continuation, value_of_lines}
+use Rattle.gixobj_hash.specs.HeaderFormat.{Header, encode_continuation, value_of_lines}
 use Rattle.gixobj_hash.specs.FieldFormat.{encode_line}
 use Rattle.gixobj_hash.specs.Runs.{HasNoPiece}
 use Rattle.gixobj_hash.specs.Bytes.{newline}
@@ -30,16 +30,34 @@ pub record AreLinesOf (value bytes : List ℕ) : Type 0 where
   pub each_one_line : All (λ line. IsByteFree newline line) more
   pub decoded : value ≡ value_of_lines first more
 
--- the token has the kind of this line and the position of its value; that of a header has its name and its lines
-abbrev pub IsTokenOfLine : List ℕ → LineView → CommitToken → Type 0
-IsTokenOfLine commit (tree_line hex) token = (token.kind ≡ 1) × IsSpanOf commit hex token.value
-IsTokenOfLine commit (parent_line hex) token = (token.kind ≡ 2) × IsSpanOf commit hex token.value
-IsTokenOfLine commit (author_line actor) token = (token.kind ≡ 3) × IsSpanOf commit actor token.value
-IsTokenOfLine commit (committer_line actor) token = (token.kind ≡ 4) × IsSpanOf commit actor token.value
-IsTokenOfLine commit (encoding_line encoding) token = (token.kind ≡ 5) × IsSpanOf commit encoding token.value
-IsTokenOfLine commit (header_line header) token = (token.kind ≡ 6) × IsSpanOf commit header.name token.name
-    × ((bytes : List ℕ) × IsSpanOf commit bytes token.value × AreLinesOf header.value bytes)
-IsTokenOfLine commit (message_line message) token = (token.kind ≡ 7) × IsSpanOf commit message token.value
+-- the token at the offset has this kind and no name; this number of bytes follows its value
+pub record IsValueToken (commit : List ℕ) (offset number : ℕ) (bytes : List ℕ) (after : ℕ) (token : CommitToken)
+    : Type 0 where
+  pub kind : token.kind ≡ number
+  pub name : IsEmptyAt offset token.name
+  pub value : IsSpanBefore commit bytes after token.value
+
+-- the token at the offset has the name of the header and, one byte after it, its lines, which the rest follows
+pub record IsHeaderToken (commit : List ℕ) (offset : ℕ) (header : Header) (rest : List ℕ) (token : CommitToken)
+    : Type 0 where
+  pub bytes : List ℕ
+  pub kind : token.kind ≡ 6
+  pub start : token.name.start ≡ offset
+  pub name : IsSpanBefore commit header.name (length bytes + length rest + 1) token.name
+  pub value : IsSpanBefore commit bytes (length rest) token.value
+  pub lines : AreLinesOf header.value bytes
+
+-- the token at the offset is that of this line, which the rest follows: after a value on one line comes a newline
+abbrev pub IsTokenOfLine : List ℕ → ℕ → LineView → List ℕ → CommitToken → Type 0
+IsTokenOfLine commit offset (tree_line hex) rest token = IsValueToken commit offset 1 hex (length rest + 1) token
+IsTokenOfLine commit offset (parent_line hex) rest token = IsValueToken commit offset 2 hex (length rest + 1) token
+IsTokenOfLine commit offset (author_line actor) rest token = IsValueToken commit offset 3 actor (length rest + 1) token
+IsTokenOfLine commit offset (committer_line actor) rest token =
+    IsValueToken commit offset 4 actor (length rest + 1) token
+IsTokenOfLine commit offset (encoding_line encoding) rest token =
+    IsValueToken commit offset 5 encoding (length rest + 1) token
+IsTokenOfLine commit offset (header_line header) rest token = IsHeaderToken commit offset header rest token
+IsTokenOfLine commit offset (message_line message) rest token = IsValueToken commit offset 7 message 0 token
 
 -- a line begins at this offset of the commit, and this rest follows it
 abbrev pub BeginsWithLineAt : List ℕ → ℕ → LineView → List ℕ → Type 0
@@ -53,7 +71,8 @@ pub record IsTokenAt (kind : Kind) (commit : List ℕ) (before : State) (offset 
   pub after : State
   pub state : state_of_code cursor.state ≡ Some after
   pub begins : BeginsWithLine kind before (drop offset commit) line after (drop cursor.offset commit)
-  pub token_of_line : IsTokenOfLine commit line token
+  pub within : cursor.offset ≤ length commit
+  pub token_of_line : IsTokenOfLine commit offset line (drop cursor.offset commit) token
 
 -- why no token is decoded at the offset in the state `before`
 abbrev pub IsTokenStatus : Kind → List ℕ → State → ℕ → ℕ → Type 0

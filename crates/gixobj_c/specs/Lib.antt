@@ -5,6 +5,7 @@ pub mod Headers
 pub mod Loose
 pub mod Messages
 pub mod Objects
+pub mod Runs
 pub mod Signatures
 pub mod Spans
 pub mod Tags

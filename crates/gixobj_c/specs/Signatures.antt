@@ -2,7 +2,7 @@
 use Rattle.std.specs.Prelude.{◌≡◌, ◌⊎◌, ℕ, List, Option, Some, None}
 use Rattle.gixobj_c_codes.specs.Buffers.{WritesTwo}
 use Rattle.gixobj_c_codes.specs.Codes.{done, malformed, not_found, out_of_memory, unknown_code}
-use Rattle.gixobj_c.specs.Spans.{IsSpanOf}
+use Rattle.gixobj_c.specs.Spans.{IsSpanBefore}
 use Rattle.gixobj_c.specs.declared.spans.Span.{Span}
 use Rattle.gixobj_hash.specs.declared.decode.Error.TheVariants as error
 use Rattle.gixobj_hash.specs.declared.hash.kind.Kind.{Kind}
@@ -11,11 +11,11 @@ use Rattle.gixobj_grammar.specs.TagSignatures.{HasTagSignature}
 use Rattle.gixobj_parse.specs.Markers.{HasNoMarker}
 use Rattle.gixobj_parse.specs.declared.signature.Format.{Format}
 
--- the position of the tag's signature, which signs all bytes before it; without one nothing is written
+-- the position of the tag's signature, at its end, which signs all bytes before it; without one nothing is written
 abbrev pub IsTagSignatureCall : List ℕ → Span → Span → ℕ → Type 0
 IsTagSignatureCall tag before after status =
     ((status ≡ done) × ((signature signed : List ℕ) × (format : Format)
-    × HasTagSignature tag signature signed format × IsSpanOf tag signature after))
+    × HasTagSignature tag signature signed format × IsSpanBefore tag signature 0 after))
     ⊎ ((status ≡ not_found) × HasNoMarker tag × (after ≡ before))
 
 -- a header of several lines comes up to the signature, or there is a signature, for which the signed bytes are copied

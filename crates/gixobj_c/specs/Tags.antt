@@ -1,7 +1,7 @@
 -- Results of the call about the tokens of tags.
-use Rattle.std.specs.Prelude.{◌≡◌, ◌<◌, ◌+◌, ◌==◌, ◌⊎◌, ℕ, List, Option, Some, None, codes, drop, if◌then◌else◌, length}
+use Rattle.std.specs.Prelude.{◌≡◌, ◌<◌, ◌≤◌, ◌+◌, ◌==◌, ◌⊎◌, ℕ, List, Option, Some, None, codes, drop, if◌then◌else◌, length}
 use Rattle.gixobj_c_codes.specs.Codes.{at_end, bad_offset, done, malformed, unknown_code}
-use Rattle.gixobj_c.specs.Spans.{HasPieceBefore, IsSpanOf}
+use Rattle.gixobj_c.specs.Spans.{HasPieceBefore, IsEmptyAt, IsSpanBefore}
 use Rattle.gixobj_c.specs.declared.commits.Cursor.{Cursor}
 use Rattle.gixobj_c.specs.declared.spans.Span.{Span}
 use Rattle.gixobj_c.specs.declared.tags.TagToken.{TagToken}
@@ -22,7 +22,7 @@ tag_state_of_code code = if code == 0 then Some state.Target else if code == 1 t
 pub record IsFieldSpan (name tag : List ℕ) (offset : ℕ) (rest : List ℕ) (span : Span) : Type 0 where
   pub value : List ℕ
   pub begins : BeginsWithField name (drop offset tag) value rest
-  pub bytes : IsSpanOf tag value span
+  pub bytes : IsSpanBefore tag value (length rest + 1) span
 
 -- the message and the signature of a body are at the end of the tag; one byte separates them
 abbrev pub HasBodyParts : List ℕ → List ℕ → Option (List ℕ) → Type 0
@@ -30,15 +30,21 @@ HasBodyParts tag message (Some signature) =
     HasPieceBefore tag message (length signature + 1) × HasPieceBefore tag signature 0
 HasBodyParts tag message None = HasPieceBefore tag message 0
 
--- the positions of the message and of the signature, if there is one
-abbrev pub IsTokenOfBody : List ℕ → List ℕ → Option (List ℕ) → TagToken → Type 0
-IsTokenOfBody tag message (Some signature) token = (token.kind ≡ 6) × (token.has_signature ≡ 1)
-    × IsSpanOf tag message token.value × IsSpanOf tag signature token.signature
-IsTokenOfBody tag message None token = (token.kind ≡ 6) × (token.has_signature ≡ 0) × IsSpanOf tag message token.value
+-- the token at the offset has this kind and no signature
+pub record IsUnsigned (offset number : ℕ) (token : TagToken) : Type 0 where
+  pub kind : token.kind ≡ number
+  pub unsigned : token.has_signature ≡ 0
+  pub signature : IsEmptyAt offset token.signature
+
+-- the positions of the message and of the signature, if there is one: at the end of the tag, with one byte between them
+abbrev pub IsTokenOfBody : List ℕ → ℕ → List ℕ → Option (List ℕ) → TagToken → Type 0
+IsTokenOfBody tag offset message (Some signature) token = (token.kind ≡ 6) × (token.has_signature ≡ 1)
+    × IsSpanBefore tag message (length signature + 1) token.value × IsSpanBefore tag signature 0 token.signature
+IsTokenOfBody tag offset message None token = IsUnsigned offset 6 token × IsSpanBefore tag message 0 token.value
 
 -- the token has this kind and the position of the value of the field between the offset and the rest
 abbrev pub IsTokenOfField : List ℕ → ℕ → List ℕ → ℕ → List ℕ → TagToken → Type 0
-IsTokenOfField name kind tag offset rest token = (token.kind ≡ kind) × (token.has_signature ≡ 0)
+IsTokenOfField name kind tag offset rest token = IsUnsigned offset kind token
     × IsFieldSpan name tag offset rest token.value
 
 -- the token between the offset and the rest has the kind of this one, and the position of its value
@@ -47,9 +53,8 @@ IsTokenOfTag tag offset (target_token id) rest token = IsTokenOfField (codes "ob
 IsTokenOfTag tag offset (kind_token kind) rest token = IsTokenOfField (codes "type") 2 tag offset rest token
 IsTokenOfTag tag offset (name_token name) rest token = IsTokenOfField (codes "tag") 3 tag offset rest token
 IsTokenOfTag tag offset (tagger_token actor) rest token = IsTokenOfField (codes "tagger") 4 tag offset rest token
-IsTokenOfTag tag offset no_tagger_token rest token =
-    (token.kind ≡ 5) × (token.has_signature ≡ 0) × (token.value.len ≡ 0)
-IsTokenOfTag tag offset (body_token message signature) rest token = IsTokenOfBody tag message signature token
+IsTokenOfTag tag offset no_tagger_token rest token = IsUnsigned offset 5 token × IsEmptyAt offset token.value
+IsTokenOfTag tag offset (body_token message signature) rest token = IsTokenOfBody tag offset message signature token
 
 -- a token begins at this offset of the tag, and this rest follows it
 abbrev pub BeginsWithTokenAt : List ℕ → ℕ → TagTokenView → List ℕ → Type 0
@@ -63,6 +68,7 @@ pub record IsTagTokenAt (kind : Kind) (tag : List ℕ) (before : State) (offset 
   pub after : State
   pub state : tag_state_of_code cursor.state ≡ Some after
   pub begins : BeginsWithTagToken kind before (drop offset tag) found after (drop cursor.offset tag)
+  pub within : cursor.offset ≤ length tag
   pub token_of_tag : IsTokenOfTag tag offset found (drop cursor.offset tag) token
 
 -- why no token is decoded at the offset in the state `before`

@@ -48,7 +48,7 @@ pub extern "C" fn gixobj_actor(line: &[u8], out: &mut Actor) -> u32
 fn parts_of(line: &[u8], after: &[u8], actor: SignatureRef<'_>, rest: &[u8]) -> Actor
     requires actor { IsActorLineOf line.now (actor_view actor) rest.now }
     requires split { (before : List ℕ) × SplitsAt less_than line.now before after.now }
-    ensures { IsActorAt line.now (actor_view actor.entry) result }
+    ensures { IsActorAt line.now (actor_view actor.entry) rest.now result }
 {
     let email_len = actor.email.as_bytes().len();
     let name = prefix_span(line, actor.name);

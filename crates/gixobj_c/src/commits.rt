@@ -2,8 +2,8 @@
 ghost use Rattle.std.specs.Prelude.{◌≡◌, Some, drop};
 ghost use Rattle.bstr.specs.BStr.{bstr_bytes};
 ghost use Rattle.gixobj_c_codes.specs.Codes.{hash_of_code as hash_of};
-ghost use Rattle.gixobj_c.specs.Commits.{BeginsWithLineAt, IsCommitTokenCall, IsTokenOfLine, state_of_code as state_of};
-ghost use Rattle.gixobj_c.specs.Spans.{HasPieceBefore, IsSpanOf};
+ghost use Rattle.gixobj_c.specs.Commits.{BeginsWithLineAt, IsCommitTokenCall, IsTokenOfLine, IsValueToken, state_of_code as state_of};
+ghost use Rattle.gixobj_c.specs.Spans.{HasPieceBefore};
 ghost use Rattle.gixobj_hash.specs.HeaderFormat.{BeginsWithHeader};
 ghost use Rattle.gixobj_parse.specs.HeaderReading.{header_of};
 ghost use Rattle.gixobj_grammar.specs.Lines.{header_line, line_view};
@@ -13,8 +13,8 @@ use bstr::BStr;
 use gixobj_c_codes::codes::{
     AT_END, BAD_OFFSET, DONE, MALFORMED, OUT_OF_MEMORY, UNKNOWN_CODE, hash_of_code,
 };
-use gixobj_hash::decode::Error;
 use gixobj_grammar::lines::{Line, State, decode_line};
+use gixobj_hash::decode::Error;
 use std::alloc::Global;
 use std::borrow::CowSlice;
 
@@ -34,7 +34,7 @@ pub struct Cursor {
 pub struct CommitToken {
     /// 1: the tree, 2: a parent, 3: the author, 4: the committer, 5: the encoding, 6: an extra header, 7: the message.
     pub kind: u32,
-    /// The position of the name of an extra header.
+    /// The position of the name of an extra header. Another token has no name: an empty span at its offset.
     pub name: Span,
     /// The position of the value. That of an extra header is its lines: each with its newline, and a space before each
     /// except the first.
@@ -85,27 +85,26 @@ pub extern "C" fn gixobj_commit_token(
 #[tactic(auto, using(crate::proofs::Lines::is_token_of_same_line))]
 fn token_of_line(commit: &[u8], offset: usize, line: Line<'_>, rest: &[u8]) -> CommitToken
     requires { BeginsWithLineAt commit.now offset (line_view line) rest.now }
-    ensures { IsTokenOfLine commit.now (line_view line.entry) result }
+    ensures { IsTokenOfLine commit.now offset (line_view line.entry) rest.now result }
 {
     let after = rest.len() + 1;
     match line {
-        Line::Tree(hex) => one_line(commit, 1, hex, after),
-        Line::Parent(hex) => one_line(commit, 2, hex, after),
-        Line::Author(actor, _) => one_line(commit, 3, actor, after),
-        Line::Committer(actor, _) => one_line(commit, 4, actor, after),
-        Line::Encoding(name) => one_line(commit, 5, name, after),
+        Line::Tree(hex) => one_line(commit, offset, 1, hex, after),
+        Line::Parent(hex) => one_line(commit, offset, 2, hex, after),
+        Line::Author(actor, _) => one_line(commit, offset, 3, actor, after),
+        Line::Committer(actor, _) => one_line(commit, offset, 4, actor, after),
+        Line::Encoding(name) => one_line(commit, offset, 5, name, after),
         Line::ExtraHeader(field) => extra_header(commit, offset, field, rest),
-        Line::Message(message) => one_line(commit, 7, message, 0),
+        Line::Message(message) => one_line(commit, offset, 7, message, 0),
     }
 }
 
-/// Returns a token with this value, which `after` bytes of the commit follow.
-fn one_line(commit: &[u8], kind: u32, value: BStr<'_>, after: usize) -> CommitToken
+/// Returns the token at this offset with this value, which `after` bytes of the commit follow.
+fn one_line(commit: &[u8], offset: usize, kind: u32, value: BStr<'_>, after: usize) -> CommitToken
     requires { HasPieceBefore commit.now (bstr_bytes value) after }
-    ensures kind { result.kind ≡ kind }
-    ensures value { IsSpanOf commit.now (bstr_bytes value.entry) result.value }
+    ensures { IsValueToken commit.now offset kind (bstr_bytes value.entry) after result }
 {
-    let name = empty_span();
+    let name = empty_span(offset);
     let value = span_before(commit, value.as_bytes(), after);
     CommitToken { kind, name, value }
 }
@@ -118,7 +117,7 @@ fn extra_header(
     rest: &[u8],
 ) -> CommitToken
     requires { BeginsWithHeader (drop offset commit.now) (header_of field) rest.now }
-    ensures { IsTokenOfLine commit.now (header_line (header_of field.entry)) result }
+    ensures { IsTokenOfLine commit.now offset (header_line (header_of field.entry)) rest.now result }
 {
     let bytes = field.0.as_bytes();
     let len = bytes.len();

@@ -59,8 +59,8 @@ fn fill_entries(
 fn empty_entry() -> TreeEntry {
     TreeEntry {
         mode: 0,
-        name: empty_span(),
-        id: empty_span(),
+        name: empty_span(0),
+        id: empty_span(0),
         next: 0,
     }
 }

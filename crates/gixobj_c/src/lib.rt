@@ -10,6 +10,7 @@ mod commits;
 mod entries;
 mod headers;
 mod ids;
+pub mod laws;
 mod loose;
 mod messages;
 mod objects;

@@ -39,7 +39,7 @@ fn message_of(message: &[u8]) -> Message
     let Some(body) = parts.body else {
         return Message {
             title,
-            body: empty_span(),
+            body: empty_span(0),
             has_body: 0,
         };
     };

@@ -1,7 +1,7 @@
 //! Positions of pieces in the input.
 ghost use Rattle.std.specs.Prelude.{◌≡◌, ◌≤◌, drop, length};
 ghost use Rattle.bstr.specs.BStr.{bstr_bytes};
-ghost use Rattle.gixobj_c.specs.Spans.{BeginsWithPiece, HasPieceBefore, IsSpanOf};
+ghost use Rattle.gixobj_c.specs.Spans.{BeginsWithPiece, HasPieceBefore, IsEmptyAt, IsSpanAtStart, IsSpanBefore};
 
 use bstr::BStr;
 
@@ -15,18 +15,21 @@ pub struct Span {
     pub len: usize,
 }
 
-/// The span without bytes at offset 0.
-pub fn empty_span() -> Span
-    ensures { result.len ≡ 0 }
+/// Returns the span without bytes at this offset.
+pub fn empty_span(offset: usize) -> Span
+    ensures { IsEmptyAt offset result }
 {
-    Span { start: 0, len: 0 }
+    Span {
+        start: offset,
+        len: 0,
+    }
 }
 
 /// Returns the span of the piece that `after` bytes of the input follow.
-#[tactic(auto, using(crate::proofs::Pieces::piece_fits, crate::proofs::Pieces::is_span_of_start))]
+#[tactic(auto, using(crate::proofs::Pieces::piece_fits, crate::proofs::Pieces::is_span_before))]
 pub fn span_before(input: &[u8], piece: &[u8], after: usize) -> Span
     requires { HasPieceBefore input.now piece.now after }
-    ensures { IsSpanOf input.now piece.now result }
+    ensures { IsSpanBefore input.now piece.now after result }
 {
     let len = piece.len();
     Span {
@@ -38,16 +41,16 @@ pub fn span_before(input: &[u8], piece: &[u8], after: usize) -> Span
 /// Returns the span of the piece that `after` bytes of the input follow.
 pub fn span_of(input: &[u8], piece: BStr<'_>, after: usize) -> Span
     requires { HasPieceBefore input.now (bstr_bytes piece) after }
-    ensures { IsSpanOf input.now (bstr_bytes piece.entry) result }
+    ensures { IsSpanBefore input.now (bstr_bytes piece.entry) after result }
 {
     span_before(input, piece.as_bytes(), after)
 }
 
 /// Returns the span of the piece with which the input begins.
-#[tactic(auto, using(crate::proofs::Pieces::is_span_of_prefix))]
+#[tactic(auto, using(crate::proofs::Pieces::is_span_at_start))]
 pub fn prefix_span(input: &[u8], piece: BStr<'_>) -> Span
     requires { BeginsWithPiece input.now (bstr_bytes piece) }
-    ensures { IsSpanOf input.now (bstr_bytes piece.entry) result }
+    ensures { IsSpanAtStart input.now (bstr_bytes piece.entry) result }
 {
     let bytes = piece.as_bytes();
     Span {

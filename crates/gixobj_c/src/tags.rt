@@ -2,7 +2,7 @@
 ghost use Rattle.std.specs.Prelude.{◌≡◌, ℕ, List, Some, drop};
 ghost use Rattle.bstr.specs.BStr.{bstr_bytes};
 ghost use Rattle.gixobj_c_codes.specs.Codes.{hash_of_code as hash_of};
-ghost use Rattle.gixobj_c.specs.Tags.{BeginsWithTokenAt, HasBodyParts, IsFieldSpan, IsTagTokenCall, IsTokenOfBody, IsTokenOfTag, tag_state_of_code as state_of};
+ghost use Rattle.gixobj_c.specs.Tags.{BeginsWithTokenAt, HasBodyParts, IsFieldSpan, IsTagTokenCall, IsTokenOfBody, IsTokenOfTag, IsUnsigned, tag_state_of_code as state_of};
 ghost use Rattle.gixobj_hash.specs.HeaderFormat.{BeginsWithField};
 ghost use Rattle.gixobj_hash.specs.Optional.{bytes_if_some};
 ghost use Rattle.gixobj_grammar.specs.TagTokens.{tag_token_view};
@@ -21,9 +21,9 @@ pub struct TagToken {
     pub kind: u32,
     /// 1 for a body with a signature, and otherwise 0.
     pub has_signature: u32,
-    /// The position of the value. That of a body is its message. An absent tagger has no bytes.
+    /// The position of the value. That of a body is its message. An absent tagger is an empty span at its offset.
     pub value: Span,
-    /// The position of the signature of a body that has one.
+    /// The position of the signature of a body that has one, else an empty span at the token's offset.
     pub signature: Span,
 }
 
@@ -69,26 +69,25 @@ fn token_at(tag: &[u8], offset: usize, token: Token<'_>, rest: &[u8]) -> TagToke
     ensures { IsTokenOfTag tag.now offset (tag_token_view token.entry) rest.now result }
 {
     match token {
-        Token::Target { .. } => with_value(1, field_span(tag, offset, b"object", rest)),
-        Token::TargetKind(_) => with_value(2, field_span(tag, offset, b"type", rest)),
-        Token::Name(_) => with_value(3, field_span(tag, offset, b"tag", rest)),
-        Token::Tagger(Some(_)) => with_value(4, field_span(tag, offset, b"tagger", rest)),
-        Token::Tagger(None) => with_value(5, empty_span()),
-        Token::Body { message, signature } => body_token(tag, message, signature),
+        Token::Target { .. } => with_value(offset, 1, field_span(tag, offset, b"object", rest)),
+        Token::TargetKind(_) => with_value(offset, 2, field_span(tag, offset, b"type", rest)),
+        Token::Name(_) => with_value(offset, 3, field_span(tag, offset, b"tag", rest)),
+        Token::Tagger(Some(_)) => with_value(offset, 4, field_span(tag, offset, b"tagger", rest)),
+        Token::Tagger(None) => with_value(offset, 5, empty_span(offset)),
+        Token::Body { message, signature } => body_token(tag, offset, message, signature),
     }
 }
 
-/// Returns a token of this kind and this value, without a signature.
-fn with_value(kind: u32, value: Span) -> TagToken
-    ensures kind { result.kind ≡ kind }
+/// Returns the token at this offset of this kind and this value, without a signature.
+fn with_value(offset: usize, kind: u32, value: Span) -> TagToken
+    ensures unsigned { IsUnsigned offset kind result }
     ensures value { result.value ≡ value }
-    ensures unsigned { result.has_signature ≡ 0 }
 {
     TagToken {
         kind,
         has_signature: 0,
         value,
-        signature: empty_span(),
+        signature: empty_span(offset),
     }
 }
 
@@ -105,14 +104,14 @@ fn field_span(tag: &[u8], offset: usize, name: &[u8], rest: &[u8]) -> Span
     }
 }
 
-/// Returns the token of a body with this message and this signature, which are at the end of the tag.
-fn body_token(tag: &[u8], message: BStr<'_>, signature: Option<BStr<'_>>) -> TagToken
+/// Returns the token at this offset of a body with this message and this signature, which are at the end of the tag.
+fn body_token(tag: &[u8], offset: usize, message: BStr<'_>, signature: Option<BStr<'_>>) -> TagToken
     requires { HasBodyParts tag.now (bstr_bytes message) (bytes_if_some signature) }
-    ensures { IsTokenOfBody tag.now (bstr_bytes message.entry)
+    ensures { IsTokenOfBody tag.now offset (bstr_bytes message.entry)
         (bytes_if_some signature.entry) result }
 {
     let Some(signature) = signature else {
-        return with_value(6, span_of(tag, message, 0));
+        return with_value(offset, 6, span_of(tag, message, 0));
     };
     let after = signature.as_bytes().len() + 1;
     TagToken {

@@ -32,19 +32,19 @@ extra_header-requires c = header_of_line c.args.commit.now c.args.offset _ c.arg
     (line_of_variant c.args.commit.now c.args.offset _ _ c.args.rest.now c.in-ExtraHeader.is c.requires)
 
 pub returns-in-Tree : goal.returns-in-Tree
-returns-in-Tree c = is_token_of_same_line _ _ _ _ _ c.in-Tree.is refl (c.one_line.ensures.kind, c.one_line.ensures.value)
+returns-in-Tree c = is_token_of_same_line _ _ _ _ _ _ _ c.in-Tree.is refl c.one_line.ensures
 
 pub returns-in-Parent : goal.returns-in-Parent
-returns-in-Parent c = is_token_of_same_line _ _ _ _ _ c.in-Parent.is refl (c.one_line-in-Parent.ensures.kind, c.one_line-in-Parent.ensures.value)
+returns-in-Parent c = is_token_of_same_line _ _ _ _ _ _ _ c.in-Parent.is refl c.one_line-in-Parent.ensures
 
 pub returns-in-Author : goal.returns-in-Author
-returns-in-Author c = is_token_of_same_line _ _ _ _ _ c.in-Author.is refl (c.one_line-in-Author.ensures.kind, c.one_line-in-Author.ensures.value)
+returns-in-Author c = is_token_of_same_line _ _ _ _ _ _ _ c.in-Author.is refl c.one_line-in-Author.ensures
 
 pub returns-in-Committer : goal.returns-in-Committer
-returns-in-Committer c = is_token_of_same_line _ _ _ _ _ c.in-Committer.is refl (c.one_line-in-Committer.ensures.kind, c.one_line-in-Committer.ensures.value)
+returns-in-Committer c = is_token_of_same_line _ _ _ _ _ _ _ c.in-Committer.is refl c.one_line-in-Committer.ensures
 
 pub returns-in-Encoding : goal.returns-in-Encoding
-returns-in-Encoding c = is_token_of_same_line _ _ _ _ _ c.in-Encoding.is refl (c.one_line-in-Encoding.ensures.kind, c.one_line-in-Encoding.ensures.value)
+returns-in-Encoding c = is_token_of_same_line _ _ _ _ _ _ _ c.in-Encoding.is refl c.one_line-in-Encoding.ensures
 
 pub returns-in-Message : goal.returns-in-Message
-returns-in-Message c = is_token_of_same_line _ _ _ _ _ c.in-Message.is refl (c.one_line-in-Message.ensures.kind, c.one_line-in-Message.ensures.value)
+returns-in-Message c = is_token_of_same_line _ _ _ _ _ _ _ c.in-Message.is refl c.one_line-in-Message.ensures

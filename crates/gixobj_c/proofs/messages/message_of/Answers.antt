@@ -13,4 +13,5 @@ pub returns : goal.returns
 returns c = message_with_body _ c.from_bytes-parts.result _ _ c.from_bytes-parts.ensures c.in-Some.is refl c.prefix_span-title.ensures c.span_of-body.ensures
 
 pub returns-in_default : goal.returns-in_default
-returns-in_default c = message_without_body _ c.from_bytes-parts.result _ c.from_bytes-parts.ensures c.in_default.is refl c.prefix_span-title.ensures
+returns-in_default c = message_without_body _ c.from_bytes-parts.result _ c.from_bytes-parts.ensures c.in_default.is refl c.empty_span.ensures
+    c.prefix_span-title.ensures

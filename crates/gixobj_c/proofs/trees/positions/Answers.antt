@@ -16,4 +16,4 @@ offset_of-next-requires c = rest_of_entry _ _ _ _ (entry_view c.args.entry) _ c.
 
 pub returns : goal.returns
 returns c = is_entry_at_of_spans _ _ _ _ (entry_view c.args.entry) _ _ _ _ c.requires.from c.requires.begins c.offset_of-next.ensures.rest c.value-mode.ensures
-    c.as_bytes-name.ensures c.as_bytes-id.ensures.value c.span_before-name_span.ensures c.span_before-id_span.ensures
+    c.as_bytes-name.ensures c.as_bytes-id.ensures.value c.offset_of-next.ensures.within c.span_before-name_span.ensures c.span_before-id_span.ensures

@@ -1,0 +1,19 @@
+-- Each call adds the token that it found; at the end there are all.
+use Rattle.gixobj_c.proofs.CursorRuns.{all_tag_tokens, has_tag_tokens_next, has_tag_tokens_none, tag_calls_advance}
+use Rattle.gixobj_c_codes.specs.Codes.{hash_of_code as hash_of}
+use Rattle.gixobj_c.proofs.laws.tag_tokens.Goals as goal
+
+pub calls-init : goal.calls-init
+calls-init c = has_tag_tokens_none (hash_of c.args.hash) c.args.tag.now _ c.new-tokens.ensures.items
+
+pub returns-then-status-eq-AT_END : goal.returns-then-status-eq-AT_END
+returns-then-status-eq-AT_END c = all_tag_tokens (hash_of c.args.hash) c.args.tag.now _ _ _ _ _ _ c.calls.invariant c.gixobj_tag_token-status.ensures
+    c.if-status-eq-AT_END.true
+
+pub calls-smaller : goal.calls-smaller
+calls-smaller c = tag_calls_advance (hash_of c.args.hash) c.args.tag.now _ _ _ _ _ _ c.calls.invariant c.gixobj_tag_token-status.ensures
+    c.if-status-ne-DONE.false
+
+pub calls-preserved : goal.calls-preserved
+calls-preserved c = has_tag_tokens_next (hash_of c.args.hash) c.args.tag.now _ _ _ _ _ _ _ c.calls.invariant c.gixobj_tag_token-status.ensures
+    c.if-status-ne-DONE.false c.in-Ok.ensures.items
