@@ -11,10 +11,12 @@
 //! - [`Error`]: one error for tools, to which `?` converts each of the others.
 #![tactic(auto)]
 
+pub mod error;
 pub mod laws;
 pub mod signature;
 pub mod tree;
 
+pub use error::Error;
 pub use gixobj_base::{
     Blob, BlobRef, Header, Kind, OutOfMemory, Tree, WriteTo, actor, compute_hash,
     compute_stream_hash, date, decode, encode, hash, kind, stream_hash, streams,
@@ -24,7 +26,6 @@ pub use gixobj_codec::{
     LooseDecodeError, Object, ObjectRef, Store, Tag, TagRef, TagRefIter, TreeRef, TreeRefIter,
     commit, data, tag,
 };
-pub use gixobj_error::Error;
-pub use gixobj_store_find::{FindExt, HeaderExt, Write, find, write};
 pub use gixobj_editor_import::import;
+pub use gixobj_store_find::{FindExt, HeaderExt, Write, find, write};
 pub use gixobj_store_keep::{Keep, KeepCommit, KeepError, Memory, MemoryIds};

@@ -31,14 +31,14 @@ pub use gixobj_editor_lookups::error::Error;
 use gixobj_editor_lookups::names::{copy_names, validate_names};
 use gixobj_editor_lookups::opening::{NotLookedUp, open_along};
 use gixobj_editor_lookups::removal::{check_leaf, open_for_removal};
+use gixobj_editor_open::open::Open;
+use gixobj_editor_write::write::write_all;
+pub use gixobj_editor_write::write::{WriteError, Written};
 use gixobj_hash::OutOfMemory;
 use gixobj_hash::hash::{self, ObjectId};
-use gixobj_editor_open::open::Open;
 use gixobj_store::Find;
 use gixobj_tree::Tree;
 use gixobj_tree::tree::{Entry, EntryKind};
-use gixobj_editor_write::write::write_all;
-pub use gixobj_editor_write::write::{WriteError, Written};
 use std::marker::Model;
 
 /// An editor of a tree and of the trees below it, over an object store. [`Editor::new`] makes one.
@@ -149,8 +149,10 @@ impl<S> Editor<S> {
         &mut self.store
     }
 
-    /// Returns the number of trees looked up in the store since the editor was made, failed lookups included.
-    /// It saturates at `u64::MAX`. Allocates nothing.
+    /// Returns the number of trees looked up in the store since the editor was made. It saturates at `u64::MAX`.
+    ///
+    /// A failed lookup is counted too. Contracts say so of `try_upsert`, `try_remove`, `try_remove_leaf` and
+    /// `cursor_at`, except for a lookup that runs out of memory. Allocates nothing.
     pub fn lookups(&self) -> u64
         ensures { result ≡ self.now.lookups }
     {

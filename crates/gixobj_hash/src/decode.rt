@@ -12,6 +12,7 @@ use crate::split::{are_digits, number_from_digits, split_at_byte};
 use crate::{Kind, kind};
 use bstr::BString;
 use std::alloc::{AllocError, AllocFailed, Global};
+use std::fmt;
 
 /// The error of a call that decodes an object.
 #[derive(Clone, Debug, Drop, thiserror::Error)]
@@ -52,17 +53,24 @@ impl<T: Drop> From<AllocFailed<T>> for Error {
 #[derive(Clone, Copy, Debug, PartialEq, Eq, thiserror::Error)]
 pub enum ParseIntegerErrorKind {
     /// No byte follows the sign.
-    #[error("no digit")]
     Empty,
     /// A byte after the sign is not a decimal digit.
-    #[error("a byte that is no digit")]
     InvalidDigit,
     /// The number exceeds 64 bits.
-    #[error("a number past 64 bits")]
     PosOverflow,
     /// The number is below zero.
-    #[error("a number below zero")]
     NegOverflow,
+}
+
+impl fmt::Display for ParseIntegerErrorKind {
+    fn fmt<W: fmt::Write>(&self, f: &mut fmt::Formatter<W>) -> fmt::Result {
+        f.write_str(match self {
+            ParseIntegerErrorKind::Empty => "no digit",
+            ParseIntegerErrorKind::InvalidDigit => "a byte that is no digit",
+            ParseIntegerErrorKind::PosOverflow => "a number past 64 bits",
+            ParseIntegerErrorKind::NegOverflow => "a number below zero",
+        })
+    }
 }
 
 /// The error of [`loose_header`].

@@ -1,7 +1,7 @@
 //! Header fields: their encodings and sizes.
 //! The encodings follow gitdatamodel, "commits", and gitformat-signature, "Commit signatures".
 
-use crate::helpers::{holds, string_of};
+use crate::helpers::string_of;
 use gixobj_actor::actor::Signature;
 use gixobj_actor::date::Time;
 use gixobj_actor::encode::{size_with_signature, trusted_header_signature};
@@ -10,8 +10,6 @@ use gixobj_encode::encode::{
     size_with_multi_line, trusted_header_field, trusted_header_hex, trusted_header_id,
 };
 use gixobj_hash::hash::{Kind, ObjectId};
-use gixobj_hash::parse::{hex_hash, id_of_hex};
-use gixobj_hash::split::{are_digits, number_from_digits};
 use gixobj_streams::streams::write_parts;
 
 /// The encodings of fields of one line, in the order of the test.
@@ -81,14 +79,4 @@ fn rejects_empty_value_and_newline(rt: HostRuntime) {
     let newline = header_field(alloc, b"encoding", b"a\nb", &mut out);
     assert!(rt; matches!(newline, Err(Error::NewlineInHeaderValue { .. })));
     assert!(rt; out.is_empty());
-}
-
-#[test]
-fn parses_digits_and_hex(rt: HostRuntime) {
-    assert!(rt; are_digits(b"18446744073709551615"));
-    assert!(rt; !are_digits(b"0x1"));
-    assert!(rt; number_from_digits(b"18446744073709551615") == Some(u64::MAX));
-    assert!(rt; number_from_digits(b"18446744073709551616") == None);
-    let hex = hex_hash(b"4b825dc642cb6eb9a060e54bf8d69288fbee4904", Kind::Sha1);
-    assert!(rt; holds!(hex, Some(hex) => id_of_hex(hex).is_empty_tree()));
 }

@@ -1,8 +1,8 @@
-//! Kinds by name, and the order of kinds and of headers.
+//! The order of kinds and of headers.
 
 use crate::helpers::are_in_order;
 use gixobj_base::Header;
-use gixobj_base::kind::Kind::{self, Blob, Commit, Tag, Tree};
+use gixobj_base::kind::Kind::{Blob, Commit, Tag, Tree};
 
 /// Headers compare by their kinds first.
 #[test]
@@ -23,13 +23,4 @@ fn kinds_and_headers_compare_in_order(rt: HostRuntime) {
     ];
     assert!(rt; are_in_order(&headers));
     assert!(rt; are_in_order(&[Tree, Blob, Commit, Tag]));
-}
-
-#[test]
-fn parses_exact_names_only(rt: HostRuntime) {
-    for kind in [Tree, Blob, Commit, Tag] {
-        assert!(rt; Kind::from_name(kind.as_bytes()) == Some(kind), "{kind}");
-    }
-    assert!(rt; Kind::from_name(b"Tag").is_none());
-    assert!(rt; Kind::from_name(b"").is_none());
 }

@@ -25,8 +25,6 @@ mod loose;
 #[cfg(test)]
 mod memory;
 #[cfg(test)]
-mod parse;
-#[cfg(test)]
 mod public_paths;
 #[cfg(test)]
 mod stream_hash;

@@ -1,26 +1,15 @@
-//! The order of entries and of trees.
+//! The order of trees.
 
 mod write;
 
-use crate::helpers::{are_in_order, are_ordered, string_of};
+use crate::helpers::{are_ordered, string_of};
 use gixobj_base::hash::{Kind, ObjectId};
 use gixobj_base::tree::{Entry, EntryKind, Tree};
 use std::alloc::Global;
 use std::cmp::Ordering;
 
-/// Kinds and names of entries, and whether the id is the empty blob's and not the null id.
-const ROWS: &[(EntryKind, &[u8], bool)] = &[
-    (EntryKind::Blob, b"a", false),
-    (EntryKind::Blob, b"a", true),
-    (EntryKind::BlobExecutable, b"a", false),
-    (EntryKind::Blob, b"a.b", false),
-    (EntryKind::Tree, b"a", false),
-    (EntryKind::Blob, b"a/", false),
-    (EntryKind::Blob, b"a/x", false),
-    (EntryKind::Blob, b"a0", false),
-];
-
-/// Returns a tree of these entries, in this order. Shorter if memory runs out.
+/// Returns a tree of entries of these kinds and names, in this order. Each has the id of the empty blob if its row
+/// says so, and otherwise the null id. Shorter if memory runs out.
 pub(crate) fn tree_of(alloc: Global, rows: &[(EntryKind, &[u8], bool)]) -> Tree {
     let mut tree = Tree::empty(alloc);
     for &(kind, name, is_of_blob) in rows {
@@ -37,13 +26,6 @@ pub(crate) fn tree_of(alloc: Global, rows: &[(EntryKind, &[u8], bool)]) -> Tree 
         });
     }
     tree
-}
-
-#[test]
-fn entries_compare_in_tree_order(rt: HostRuntime) {
-    let tree = tree_of(rt.alloc(), ROWS);
-    assert!(rt; tree.entries.len() == ROWS.len());
-    assert!(rt; are_in_order(&tree.entries));
 }
 
 #[test]

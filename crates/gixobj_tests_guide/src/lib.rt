@@ -8,4 +8,6 @@ mod printing_tasks;
 #[cfg(test)]
 mod readme;
 #[cfg(test)]
+mod rewriting_tasks;
+#[cfg(test)]
 mod tasks;

@@ -22,6 +22,7 @@ mod paths;
 pub mod prints;
 pub mod programs;
 pub mod records;
+pub mod renaming;
 mod rewording;
 mod runners;
 mod runs;
@@ -31,6 +32,7 @@ mod streams;
 mod tags;
 mod tokens;
 mod trailers;
+pub mod unsigning;
 pub mod values;
 mod verifying;
 mod walks;
@@ -169,7 +171,7 @@ fn decodes_tree_and_first_parent(rt: HostRuntime) {
     assert!(rt; is_id(clauses::tree_of(alloc, SECOND_BYTES, HashKind::Sha1), TREE));
 }
 
-const TAG_BYTES: &[u8] =
+pub const TAG_BYTES: &[u8] =
     b"object cfe258e596ae478f05508755d7b1559681b5833a\ntype commit\ntag v1\ntagger A <a@b> 0 +0000\n\nhi\n";
 
 /// Whether the tag has its name, and the first commit as its target.

@@ -1,6 +1,6 @@
 //! The error of tools.
 ghost use Rattle.std.specs.Prelude.{◌≡◌};
-ghost use Rattle.gixobj_error.specs.declared.error.Error.TheVariants as tool;
+ghost use Rattle.gix_object.specs.declared.error.Error.TheVariants as tool;
 
 mod decoding;
 mod edits;
@@ -8,15 +8,15 @@ mod signatures;
 mod stores;
 
 use gixobj_editor::editor;
-use gixobj_encode::{encode, stream_hash};
-use gixobj_store_find::find::{self, existing, existing_iter, existing_object};
-use gixobj_store_find::write;
-use gixobj_hash::{OutOfMemory, decode, hash, kind};
 use gixobj_editor_import::ImportError;
-use gixobj_store_keep::KeepError;
+use gixobj_encode::{encode, stream_hash};
+use gixobj_hash::{OutOfMemory, decode, hash, kind};
 use gixobj_object::LooseDecodeError;
 use gixobj_signature::signature::{RunError, sign, verify};
 use gixobj_store::data;
+use gixobj_store_find::find::{self, existing, existing_iter, existing_object};
+use gixobj_store_find::write;
+use gixobj_store_keep::KeepError;
 use gixobj_tag::name as tag_name;
 use std::alloc::{AllocError, AllocFailed};
 use std::io;

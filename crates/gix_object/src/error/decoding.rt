@@ -1,6 +1,6 @@
 //! Errors of decoding, encoding and ids.
 ghost use Rattle.std.specs.Prelude.{◌≡◌};
-ghost use Rattle.gixobj_error.specs.declared.error.Error.TheVariants as tool;
+ghost use Rattle.gix_object.specs.declared.error.Error.TheVariants as tool;
 
 use super::Error;
 use gixobj_encode::{encode, stream_hash};

@@ -1,13 +1,13 @@
 //! Errors of edits, writes and imports.
 ghost use Rattle.std.specs.Prelude.{◌≡◌};
-ghost use Rattle.gixobj_error.specs.declared.error.Error.TheVariants as tool;
-ghost use Rattle.gixobj_error.specs.Writes.{error_of_write};
+ghost use Rattle.gix_object.specs.declared.error.Error.TheVariants as tool;
+ghost use Rattle.gix_object.specs.ToolErrors.{error_of_write};
 
 use super::Error;
 use gixobj_editor::editor::{self, WriteError};
+use gixobj_editor_import::{ImportError, Stopped};
 use gixobj_encode::encode;
 use gixobj_store_find::write;
-use gixobj_editor_import::{ImportError, Stopped};
 
 impl From<editor::Error> for Error {
     ghost from_gives = { λ cause error. error ≡ tool.Edit cause };

@@ -1,6 +1,6 @@
 //! Errors of lookups, keeping and writes of stores.
 ghost use Rattle.std.specs.Prelude.{◌≡◌};
-ghost use Rattle.gixobj_error.specs.declared.error.Error.TheVariants as tool;
+ghost use Rattle.gix_object.specs.declared.error.Error.TheVariants as tool;
 
 use super::Error;
 use gixobj_store_find::find::{self, existing, existing_iter, existing_object};

@@ -1,6 +1,6 @@
 //! Errors of signing and verifying.
 ghost use Rattle.std.specs.Prelude.{◌≡◌};
-ghost use Rattle.gixobj_error.specs.declared.error.Error.TheVariants as tool;
+ghost use Rattle.gix_object.specs.declared.error.Error.TheVariants as tool;
 
 use super::Error;
 use gixobj_signature::signature::{RunError, sign, verify};
