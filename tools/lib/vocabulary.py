@@ -96,8 +96,8 @@ ALLOWED = {
 
 # Names that are allowed in these crates alone, and why.
 ALLOWED_IN = {
-    "words": ("gixobj_report gixobj_signature gixobj_signing_tests gixobj_replay_messages", "public: Call::words"),
-    "word": ("gixobj_report gixobj_signature", "the cases of Word, as definitions name them"),
+    "words": ("gixobj_signature_reports gixobj_signature gixobj_tests_signatures gixobj_tests_replay_messages", "public: Call::words"),
+    "word": ("gixobj_signature_reports gixobj_signature", "the cases of Word, as definitions name them"),
 }
 
 # Tests and mutants of these names are due, so what begins with one of them keeps its name.

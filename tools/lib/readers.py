@@ -12,7 +12,7 @@ import subprocess
 import sys
 import tempfile
 
-sys.path.insert(0, f"{os.path.dirname(os.path.dirname(os.path.abspath(__file__)))}/bindings/python")
+sys.path.insert(0, f"{os.path.dirname(os.path.dirname(os.path.dirname(os.path.abspath(__file__))))}/bindings/python")
 KINDS = {"commit": 1, "tree": 2, "tag": 4}
 BATCH, LONELY = 32, "lonely"
 
@@ -23,7 +23,7 @@ class Here:
     def __init__(self):
         import cinguepo
 
-        self.lib, self.has_encoder = cinguepo, "gixobj_reencode" in cinguepo.LIBRARIES
+        self.lib, self.has_encoder = cinguepo, "gixobj_c_reencode" in cinguepo.LIBRARIES
         self.version = "(`cinguepo`)" if self.has_encoder else "(`cinguepo`, without new encodings)"
 
     def decode(self, kind, data):
