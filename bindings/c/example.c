@@ -67,6 +67,17 @@ static int entries(void) {
   return 0;
 }
 
+/* The modes of numbers that git does not write. git ls-tree prints 100644, 160000 and 160000. */
+static int modes(void) {
+  static const char other[] = "100664 a\0aaaaaaaaaaaaaaaaaaaa777 b\0bbbbbbbbbbbbbbbbbbbb140000 c\0cccccccccccccccccccc";
+  gixobj_entry all[4];
+  size_t count = 0;
+  memset(all, 0, sizeof all);
+  WANT(gixobj_tree_entries(GIXOBJ_SHA1, BYTES(other), 0, all, 4, &count) == GIXOBJ_AT_END && count == 3);
+  WANT(all[0].mode == 0100664 && all[1].mode == 0777 && all[2].mode == 040000);
+  return 0;
+}
+
 static int tokens(void) {
   gixobj_cursor cursor = {0, 0};
   gixobj_token token;
@@ -124,6 +135,9 @@ static int named_headers(void) {
   WANT(len == 4 && !memcmp(out, "a\nb\nxxxx", 8));
   WANT(gixobj_commit_header(GIXOBJ_SHA1, BYTES(commit), BYTES("tree"), out, 8, &len) == GIXOBJ_NOT_FOUND && len == 4);
   WANT(gixobj_commit_header(GIXOBJ_SHA1, BYTES("tree x\n"), BYTES("a"), out, 8, &len) == GIXOBJ_MALFORMED);
+  /* the first line of a commit, and no bytes */
+  WANT(gixobj_commit_header(GIXOBJ_SHA1, (const uint8_t *)commit, 46, BYTES("a"), out, 8, &len) == GIXOBJ_NOT_FOUND);
+  WANT(gixobj_commit_header(GIXOBJ_SHA1, BYTES(""), BYTES("a"), out, 8, &len) == GIXOBJ_NOT_FOUND && len == 4);
   return 0;
 }
 
@@ -135,6 +149,8 @@ static int buffers(void) {
   WANT(gixobj_reencode(GIXOBJ_SHA1, GIXOBJ_TREE, BYTES(tree), out, 3, &len) == GIXOBJ_BUFFER_TOO_SHORT);
   WANT(len == sizeof tree - 1 && !memcmp(out, tree, len));
   WANT(gixobj_summary(BYTES("a\nb\n\nc"), out, 64, &len) == GIXOBJ_DONE && len == 3 && !memcmp(out, "a b", 3));
+  WANT(gixobj_summary(BYTES(" x"), out, 64, &len) == GIXOBJ_DONE && len == 1 && out[0] == 'x');
+  WANT(gixobj_summary(BYTES("\n\ntitle"), out, 64, &len) == GIXOBJ_DONE && len == 0);
   WANT(gixobj_trailer(BYTES(commit), 0, out, 64, &len, more, 256, &more_len) == GIXOBJ_DONE);
   WANT(len == 8 && !memcmp(out, "Acked-by", 8) && more_len == 3 && !memcmp(more, "B C", 3));
   WANT(gixobj_trailer(BYTES(commit), 1, out, 64, &len, more, 256, &more_len) == GIXOBJ_NOT_FOUND && len == 8);
@@ -226,8 +242,8 @@ static int actors(void) {
 }
 
 int main(void) {
-  if (actors() || ids() || headers() || entries() || tokens() || tag_tokens() || named_headers() || buffers() ||
-      edits() || writes() || signatures())
+  if (actors() || ids() || headers() || entries() || modes() || tokens() || tag_tokens() || named_headers() ||
+      buffers() || edits() || writes() || signatures())
     return 1;
   puts("ok");
   return 0;

@@ -14,6 +14,9 @@
  *    made in a signal handler, nor in the child of a fork of a process with threads.
  *  - The stack has room for the call.
  *  - In the program the names gixobj_* mean these functions alone.
+ *
+ * The numbers of hash functions and kinds have 8 bits. C converts a larger one without an error: 257 to GIXOBJ_SHA1.
+ * gcc and clang report such conversions with -Wconversion.
  */
 #ifndef GIXOBJ_H
 #define GIXOBJ_H
@@ -66,8 +69,11 @@ uint32_t gixobj_check(uint8_t hash, uint8_t kind, const uint8_t *bytes, size_t b
 typedef struct { uint64_t size; size_t len; uint8_t kind; } gixobj_header;
 uint32_t gixobj_loose_header(const uint8_t *input, size_t input_len, gixobj_header *out);
 
-/* Decodes the entry of a tree at an offset: begin with 0, and go on with out->next. The mode is the number that git
- * prints in octal: 0100644, 040000.
+/* Decodes the entry of a tree at an offset: begin with 0, and go on with out->next.
+ * The mode is the number of its octal digits, modulo 65536; without digits it is 0. For 0140000 to 0147777 it is
+ * 040000.
+ * Git prints the same number for the modes that it writes: 0100644, 0100755, 0120000, 0160000, 040000. For another mode
+ * git prints one of these: 0100644 for 0100664, 0160000 for 0777 and for 0140000.
  * DONE, AT_END, MALFORMED, BAD_OFFSET, UNKNOWN_CODE. Allocates nothing. */
 typedef struct { uint32_t mode; gixobj_span name, id; size_t next; } gixobj_entry;
 uint32_t gixobj_tree_entry(uint8_t hash, const uint8_t *tree, size_t tree_len, size_t offset, gixobj_entry *out);
@@ -79,10 +85,11 @@ uint32_t gixobj_tree_entry(uint8_t hash, const uint8_t *tree, size_t tree_len, s
 uint32_t gixobj_tree_entries(uint8_t hash, const uint8_t *tree, size_t tree_len, size_t offset, gixobj_entry *out,
                              size_t out_size, size_t *count);
 
-/* Decodes the token of a commit at a cursor, and moves the cursor after it. Begin with a cursor of zeros.
- * If the last token before AT_END is the message, the bytes are the encoding of a commit. Each commit yields such a
- * run.
- * The value of a header is its lines: each with its newline, and a space before each except the first.
+/* Decodes the token of a commit at a cursor, and moves the cursor after it. Begin with a cursor of zeros: the calls up
+ * to AT_END then find all lines, in order. If the last token before AT_END is the message, the bytes are the encoding
+ * of a commit. Each commit yields such a run.
+ * The value of a header is its lines: each with its newline, and a space before each except the first. Only a header
+ * has a name; the name of another token is an empty span at its offset.
  * DONE, AT_END, MALFORMED, OUT_OF_MEMORY (only of a header of several lines), BAD_OFFSET, UNKNOWN_CODE. A header of
  * several lines allocates. */
 enum gixobj_token_kind {
@@ -99,11 +106,12 @@ typedef struct { uint32_t kind; gixobj_span name, value; } gixobj_token;
 uint32_t gixobj_commit_token(uint8_t hash, const uint8_t *commit, size_t commit_len, gixobj_cursor *cursor,
                              gixobj_token *out);
 
-/* Decodes the token of a tag at a cursor, and moves the cursor after it. Begin with a cursor of zeros.
- * If the token before AT_END is a name, a tagger or its absence, or a body, the bytes are the encoding of a tag. Each
- * tag yields such a run.
- * The value of a target is its id in hex, that of a tagger its line, that of a body its message. An absent tagger has no
- * bytes; its token comes if other bytes than a tagger line follow the name.
+/* Decodes the token of a tag at a cursor, and moves the cursor after it. Begin with a cursor of zeros: the calls up to
+ * AT_END then find all tokens, in order. If the token before AT_END is a name, a tagger or its absence, or a body, the
+ * bytes are the encoding of a tag. Each tag yields such a run.
+ * The value of a target is its id in hex, that of a tagger its line, that of a body its message. An absent tagger is an
+ * empty span at its offset; its token comes if other bytes than a tagger line follow the name. Without a signature that
+ * of a token is such a span too.
  * DONE, AT_END, MALFORMED, BAD_OFFSET, UNKNOWN_CODE. Allocates nothing. */
 enum gixobj_tag_token_kind {
   GIXOBJ_TAG_TARGET = 1,
@@ -120,8 +128,11 @@ uint32_t gixobj_tag_token(uint8_t hash, const uint8_t *tag, size_t tag_len, gixo
 /* Writes the value of the first extra header of this name in a commit: `mergetag`, `gpgsig`. The value of several lines
  * has a newline after each, and no space before them. *out_len is its length, also if the buffer is too short. Lines
  * after the header are not decoded.
- * DONE, NOT_FOUND (of a commit without such a header), MALFORMED, OUT_OF_MEMORY (only if a header of several lines comes
- * up to this one), UNKNOWN_CODE, BUFFER_TOO_SHORT. Headers of several lines allocate. */
+ * DONE, NOT_FOUND (all lines decode, and none is such a header), MALFORMED (a line up to the header is malformed or,
+ * without the header, any line), OUT_OF_MEMORY (only if a header of several lines comes up to this one), UNKNOWN_CODE,
+ * BUFFER_TOO_SHORT. Headers of several lines allocate.
+ * The bytes may be no commit: lines after the header may be malformed, and bytes without a message, or no bytes at all,
+ * are NOT_FOUND. gixobj_check decodes all of them. */
 uint32_t gixobj_commit_header(uint8_t hash, const uint8_t *commit, size_t commit_len, const uint8_t *name,
                               size_t name_len, uint8_t *out, size_t out_size, size_t *out_len);
 
@@ -136,8 +147,11 @@ uint32_t gixobj_actor(const uint8_t *line, size_t line_len, gixobj_actor_parts *
 typedef struct { gixobj_span title, body; uint32_t has_body; } gixobj_message_parts;
 uint32_t gixobj_message(const uint8_t *message, size_t message_len, gixobj_message_parts *out);
 
-/* Writes the title of a message on one line, as `%s` of git log. *out_len is its length, also if the buffer is too
- * short.
+/* Writes the title of a message on one line. *out_len is its length, also if the buffer is too short.
+ * The title is that of gixobj_message, without the white space at its beginning and end. Its lines are joined by
+ * spaces, each without the ASCII white space at its end.
+ * `%s` of git log differs. It keeps a space at the beginning, skips empty lines there, and ends before a line of white
+ * space. For ` x` it is ` x`, and here `x`. For two newlines and `title` it is `title`, and here it is empty.
  * DONE, OUT_OF_MEMORY, BUFFER_TOO_SHORT. A title of several lines allocates. */
 uint32_t gixobj_summary(const uint8_t *message, size_t message_len, uint8_t *out, size_t out_size, size_t *out_len);
 
@@ -154,7 +168,8 @@ uint32_t gixobj_tag_signature(const uint8_t *tag, size_t tag_len, gixobj_span *o
 /* Writes the signature of a commit (`gpgsig`, of SHA-256 `gpgsig-sha256`), and what it signs: all bytes except those of
  * its header. Both lengths are written, also if a buffer is too short; then both buffers are unchanged.
  * DONE, NOT_FOUND, MALFORMED, OUT_OF_MEMORY (only if there is a signature, or a header of several lines before any
- * fault), UNKNOWN_CODE, BUFFER_TOO_SHORT. A signature and headers of several lines allocate. */
+ * fault), UNKNOWN_CODE, BUFFER_TOO_SHORT. A signature and headers of several lines allocate.
+ * The bytes may be no commit, as those of gixobj_commit_header. */
 uint32_t gixobj_commit_signature(uint8_t hash, const uint8_t *commit, size_t commit_len, uint8_t *signature,
                                  size_t signature_size, size_t *signature_len, uint8_t *signed_bytes,
                                  size_t signed_size, size_t *signed_len);

@@ -1,4 +1,4 @@
-/* Proved edits of git's trees. The library is gixobj_edit. What the caller owes is in gixobj.h.
+/* Proved edits of git's trees. The library is gixobj_c_edit. What the caller owes is in gixobj.h.
  *
  * The call is pure, as those of gixobj.h: it reads its input, writes through its last parameters, and keeps nothing.
  */

@@ -1,4 +1,4 @@
-/* Proved new encodings of git's objects. The library is gixobj_reencode. What the caller owes is in gixobj.h.
+/* Proved new encodings of git's objects. The library is gixobj_c_reencode. What the caller owes is in gixobj.h.
  *
  * The call is pure, as those of gixobj.h: it reads its input, writes through its last parameters, and keeps nothing.
  */

@@ -1,4 +1,5 @@
-"""Tests a shared library of these static libraries, and of no other one: test_libraries.py NAME.."""
+"""Tests a shared library of these static libraries, and of no other one, and the module without a shared library:
+test_libraries.py NAME.."""
 import os
 import shutil
 import subprocess
@@ -12,8 +13,8 @@ WHO = b" A <a@b> 0 +0000\n"
 COMMIT = b"tree " + EMPTY.upper().encode() + b"\nauthor" + WHO + b"committer" + WHO + b"\nm\n"
 NAMES = sys.argv[1:]
 CALLS = {
-    "gixobj_reencode": lambda: g.reencode(g.Kind.COMMIT, COMMIT) == COMMIT.replace(EMPTY.upper().encode(), EMPTY.encode()),
-    "gixobj_edit": lambda: g.edit(EMPTY, b"")[0] == EMPTY,
+    "gixobj_c_reencode": lambda: g.reencode(g.Kind.COMMIT, COMMIT) == COMMIT.replace(EMPTY.upper().encode(), EMPTY.encode()),
+    "gixobj_c_edit": lambda: g.edit(EMPTY, b"")[0] == EMPTY,
 }
 HOW = "libcinguepo.so has no {}: `make -C bindings/python` builds one that has it"
 
@@ -29,8 +30,49 @@ def test_calls():
             assert name not in NAMES and error.library == name and str(error) == HOW.format(name)
 
 
+WITHOUT = """
+import os
+import cinguepo as g
+
+calls = (lambda: g.check(3, b""), lambda: list(g.entries(b"")), lambda: g.message(b""), lambda: g.reencode(3, b""),
+         lambda: g.edit("", b""), lambda: g.LIBRARIES)
+for call in calls:
+    try:
+        call()
+        raise AssertionError("no error")
+    except g.MissingLibraryError as error:
+        assert isinstance(error, OSError) and error.library == "gixobj_c"
+        assert f"{os.environ['CINGUEPO_LIB']}: " in str(error) and "`make -C bindings/python LIBRARIES=" in str(error)
+"""
+
+
+def test_without_shared_library():
+    """The module is imported and the help is printed. Each call raises the error that says how to build the library.
+    The same holds with a library that lacks the calls."""
+    folder, module = os.path.dirname(os.path.abspath(__file__)), [sys.executable, "-m", "cinguepo"]
+
+    def run(path, *command):
+        env = {**os.environ, "CINGUEPO_LIB": path}
+        done = subprocess.run(command, cwd=folder, capture_output=True, check=False, text=True, env=env)
+        assert "Traceback" not in done.stderr, done.stderr
+        return done
+
+    for path in ("/nowhere/x.so", "libc.so.6"):
+        for option in ("-h", "--help"):
+            done = run(path, *module, option)
+            assert done.returncode == 0 and "python -m cinguepo audit" in done.stdout and not done.stderr
+        done = run(path, *module)
+        assert done.returncode == 2 and "python -m cinguepo audit" in done.stderr and not done.stdout
+        assert run(path, sys.executable, "-c", WITHOUT).returncode == 0
+        if shutil.which("git"):
+            with tempfile.TemporaryDirectory() as place:
+                subprocess.run(["git", "init", "-q", place], check=True)
+                done = run(path, *module, "audit", place)
+            assert done.returncode == 1 and "`make -C bindings/python LIBRARIES=gixobj_c`" in done.stderr, done.stderr
+
+
 def test_audit():
-    """The audit reports a malformed commit, and one that re-encodes differently. Without gixobj_reencode its last line says
+    """The audit reports a malformed commit, and one that re-encodes differently. Without gixobj_c_reencode its last line says
     how to compare encodings."""
     if not shutil.which("git"):
         return
@@ -46,19 +88,21 @@ def test_audit():
         git("init", "-q")
         commit, malformed = (git("hash-object", "-w", "--literally", "-t", "commit", "--stdin", data=data)
                              for data in (COMMIT, COMMIT[:60]))
-        done = subprocess.run(command, cwd=top, capture_output=True, check=True, text=True)
+        done = subprocess.run(command, cwd=top, capture_output=True, check=False, text=True)
+    assert done.returncode == 1 and not done.stderr, done.stderr
     *faults, last = done.stdout.splitlines()
     found = {oid: what for _, oid, _, what in (line.partition(";")[0].split(None, 3) for line in faults)}
     wanted = {malformed: "malformed"}
-    if "gixobj_reencode" in NAMES:
+    if "gixobj_c_reencode" in NAMES:
         wanted[commit] = "re-encodes differently"
     else:
-        assert last.endswith("; encodings weren't compared: " + HOW.format("gixobj_reencode")), last
+        assert last.endswith("; encodings weren't compared: " + HOW.format("gixobj_c_reencode")), last
     assert found == wanted, found
     assert last.startswith(f"{folder}: ") and f" {len(wanted)} faulty; " in last, last
-    assert ("compared" in last) == ("gixobj_reencode" not in NAMES), last
+    assert ("compared" in last) == ("gixobj_c_reencode" not in NAMES), last
 
 
 test_calls()
+test_without_shared_library()
 test_audit()
 print("ok")

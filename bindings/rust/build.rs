@@ -9,7 +9,7 @@ fn main() {
     link(&folder, "gixobj_c", "`tools/archive gixobj_c` makes it");
     for feature in ["reencode", "edit"] {
         if var_os(format!("CARGO_FEATURE_{}", feature.to_uppercase())).is_some() {
-            let name = format!("gixobj_{feature}");
+            let name = format!("gixobj_c_{feature}");
             let how = format!("`tools/archive {name}` makes it, for the feature `{feature}`");
             link(&folder, &name, &how);
         }

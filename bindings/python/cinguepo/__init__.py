@@ -1,17 +1,20 @@
-"""Proved decoders of git's objects: a module over the static libraries gixobj_c, gixobj_reencode and gixobj_edit, by
+"""Proved decoders of git's objects: a module over the static libraries gixobj_c, gixobj_c_reencode and gixobj_c_edit, by
 ctypes alone.
 
 Input is `bytes`, which the library reads in place. Parts of objects are slices of it. `LIBRARIES` are the names of the
-static libraries that are there: `reencode` and `edit` raise MissingLibraryError without theirs.
+static libraries that are there: `reencode` and `edit` raise MissingLibraryError without theirs. Without the shared
+library each call and `LIBRARIES` raise it.
+
+Calls take numbers of hash functions and kinds. UnknownCodeError is raised for an unknown one.
 """
 from ctypes import Array, byref, c_size_t, c_uint64, create_string_buffer
 from enum import IntEnum
 from typing import Callable, Iterable, Iterator, NamedTuple, Optional
 
 from . import _library as raw
-from ._library import LIBRARIES, Error, InvalidSizeError, MalformedError, MissingLibraryError, MissingTreeError
+from ._library import Error, InvalidSizeError, MalformedError, MissingLibraryError, MissingTreeError
 from ._library import NotEncodableError, ScriptError, UnknownCodeError, UnknownKindError
-from ._library import error_of, lib, plain
+from ._library import code, digest, error_of, lib, load, plain
 
 __all__ = [
     "LIBRARIES", "Actor", "Entry", "Error", "Hash", "InvalidSizeError", "Kind", "MalformedError", "MissingLibraryError",
@@ -19,6 +22,13 @@ __all__ = [
     "commit_header", "commit_signature", "edit", "entries", "loose_header", "message", "object_id", "reencode",
     "summary", "tag_signature", "tag_tokens", "tokens", "trailers", "unfold", "verify",
 ]
+
+
+def __getattr__(name: str) -> tuple[str, ...]:
+    """The libraries, which are known when the shared library is loaded."""
+    if name != "LIBRARIES":
+        raise AttributeError(f"module {__name__} has no attribute {name}")
+    return load()[1]
 
 
 class Hash(IntEnum):
@@ -38,7 +48,7 @@ class Kind(IntEnum):
 
 
 class Entry(NamedTuple):
-    """An entry of a tree."""
+    """An entry of a tree. The mode is the number of its octal digits; for 140000 to 147777 it is 0o40000."""
 
     mode: int
     name: bytes
@@ -59,16 +69,16 @@ TOKENS = ("", "tree", "parent", "author", "committer", "encoding", "header", "me
 def object_id(kind: int, content: bytes, hash: int = Hash.SHA1) -> str:
     """The id of an object in hex, as git hash-object prints it."""
     buffer = create_string_buffer(32)
-    status = lib.gixobj_id(hash, kind, plain(content), len(content), buffer, len(buffer))
+    status = lib.gixobj_id(code(hash), code(kind), plain(content), len(content), buffer, len(buffer))
     if status:
         raise error_of(status)
     return buffer.raw[: 20 if hash == Hash.SHA1 else 32].hex()
 
 
 def verify(kind: int, content: bytes, id: str, hash: int = Hash.SHA1) -> bool:
-    """Whether this is the id of the object, in hex."""
-    digest = bytes.fromhex(id)
-    status = lib.gixobj_verify(hash, kind, plain(content), len(content), digest, len(digest))
+    """Whether this is the id of the object, in hex. Raises ValueError if it has anything but pairs of hex digits."""
+    wanted = digest(id)
+    status = lib.gixobj_verify(code(hash), code(kind), plain(content), len(content), wanted, len(wanted))
     if status not in (raw.DONE, raw.MISMATCH):
         raise error_of(status)
     return status == raw.DONE
@@ -76,7 +86,7 @@ def verify(kind: int, content: bytes, id: str, hash: int = Hash.SHA1) -> bool:
 
 def check(kind: int, data: bytes, hash: int = Hash.SHA1) -> bool:
     """Whether the bytes are the encoding of an object of this kind."""
-    status = lib.gixobj_check(hash, kind, plain(data), len(data))
+    status = lib.gixobj_check(code(hash), code(kind), plain(data), len(data))
     if status not in (raw.DONE, raw.MALFORMED):
         raise error_of(status)
     return status == raw.DONE
@@ -94,6 +104,7 @@ def loose_header(data: bytes) -> tuple[Kind, int, int]:
 def entries(tree: bytes, hash: int = Hash.SHA1) -> Iterator[Entry]:
     """The entries of a tree. Raises MalformedError after the last one, if the bytes after it do not decode."""
     out, count, offset, length = (raw.TreeEntry * 128)(), c_size_t(0), 0, len(plain(tree))
+    hash = code(hash)
     while True:
         status = lib.gixobj_tree_entries(hash, tree, length, offset, out, len(out), byref(count))
         if status == raw.UNKNOWN_CODE:
@@ -115,6 +126,7 @@ def unfold(lines: bytes) -> bytes:
 def tokens(commit: bytes, hash: int = Hash.SHA1) -> Iterator[tuple]:
     """The name of each token of a commit, and its value; of an extra header ("header", its name, its value)."""
     out, cursor, length = raw.CommitToken(), raw.Cursor(), len(plain(commit))
+    hash = code(hash)
     while True:
         status = lib.gixobj_commit_token(hash, commit, length, byref(cursor), byref(out))
         if status == raw.AT_END:
@@ -134,6 +146,7 @@ TAG_TOKENS = ("", "object", "type", "tag", "tagger", "tagger", "message")
 def tag_tokens(tag: bytes, hash: int = Hash.SHA1) -> Iterator[tuple[str, Optional[bytes]]]:
     """The name of each token of a tag, and its value; that of an absent tagger is None. A signature comes last."""
     out, cursor, length = raw.TagToken(), raw.Cursor(), len(plain(tag))
+    hash = code(hash)
     while True:
         status = lib.gixobj_tag_token(hash, tag, length, byref(cursor), byref(out))
         if status == raw.AT_END:
@@ -180,14 +193,16 @@ def _with_buffers(call: Callable[..., int], sizes: list[int]) -> Optional[list[b
 
 
 def reencode(kind: int, data: bytes, hash: int = Hash.SHA1) -> bytes:
-    """The encoding that the library gives to the decoded object. Needs gixobj_reencode."""
+    """The encoding that the library gives to the decoded object. Needs gixobj_c_reencode."""
+    hash, kind = code(hash), code(kind)
     found = _with_buffers(lambda *out: lib.gixobj_reencode(hash, kind, plain(data), len(data), *out), [len(data)])
     assert found
     return found[0]
 
 
 def summary(data: bytes) -> bytes:
-    """The title of a message on one line."""
+    """The title of a message on one line, without white space at its beginning and end. `%s` of git log keeps a space at
+    the beginning, skips empty lines there, and ends before a line of white space."""
     found = _with_buffers(lambda *out: lib.gixobj_summary(plain(data), len(data), *out), [256])
     assert found
     return found[0]
@@ -205,7 +220,9 @@ def trailers(data: bytes) -> Iterator[tuple[bytes, bytes]]:
 
 
 def commit_header(commit: bytes, name: bytes, hash: int = Hash.SHA1) -> Optional[bytes]:
-    """The value of the first extra header of this name in a commit, or None."""
+    """The value of the first extra header of this name in a commit, or None if all lines decode and none is such a
+    header. The bytes may then be no commit: the first lines of one, or no bytes at all. `check` decodes all."""
+    hash = code(hash)
     call = lambda *out: lib.gixobj_commit_header(hash, plain(commit), len(commit), plain(name), len(name), *out)  # noqa: E731
     found = _with_buffers(call, [1024])
     return found[0] if found else None
@@ -220,7 +237,9 @@ def tag_signature(tag: bytes) -> Optional[tuple[bytes, bytes]]:
 
 
 def commit_signature(commit: bytes, hash: int = Hash.SHA1) -> Optional[tuple[bytes, bytes]]:
-    """The signature of a commit, and the bytes that it signs, or None."""
+    """The signature of a commit, and the bytes that it signs, or None. The bytes may be no commit, as for
+    commit_header."""
+    hash = code(hash)
     call = lambda *out: lib.gixobj_commit_signature(hash, plain(commit), len(commit), *out)  # noqa: E731
     found = _with_buffers(call, [1024, len(commit)])
     return (found[0], found[1]) if found else None
@@ -247,16 +266,16 @@ def edit(
     hash: int = Hash.SHA1,
 ) -> tuple[str, list[bytes]]:
     """Runs a script on the root with this id in hex, then writes the root. Returns its id, and the new trees, in the
-    order in which the writes emit them, the root last. Needs gixobj_edit.
+    order in which the writes emit them, the root last. Needs gixobj_c_edit.
 
     A tree that `trees` lacks is looked up by `find`; without it, MissingTreeError is raised. The lines of the script are
     `upsert KIND ID PATH`, `remove PATH`, `leaf PATH`, `write`, `root` and `at PREFIX LINE`, as `gixobj help` describes
     them."""
-    given, digest, size = frames(trees), bytes.fromhex(root), 4096
+    hash, given, old, size = code(hash), frames(trees), digest(root), 4096
     out_len, id_len, number, id = c_size_t(0), c_size_t(0), c_uint64(0), create_string_buffer(32)
     while True:
         out = create_string_buffer(size)
-        arguments = [given, len(given), digest, len(digest), plain(script), len(script)]
+        arguments = [given, len(given), old, len(old), plain(script), len(script)]
         buffers = [out, len(out), byref(out_len), id, len(id), byref(id_len), byref(number)]
         status = lib.gixobj_edit(hash, *arguments, *buffers)
         if status == raw.DONE:

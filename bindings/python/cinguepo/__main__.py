@@ -3,6 +3,8 @@
   python -m cinguepo audit REPOSITORY..          checks each object, beside git fsck
   python -m cinguepo show REPOSITORY OBJECT      prints the parts of a commit or a tree
   python -m cinguepo trailers REPOSITORY COMMIT  prints the trailers of a commit's message
+
+The status of audit is 0 if git lists and reads all objects of each repository, and none has a fault. Otherwise it is 1.
 """
 import subprocess
 import sys
@@ -40,18 +42,21 @@ def show(folder: str, name: str, only_trailers: bool) -> None:
                     print_bytes(name_of_trailer + b":", value)
 
 
-def main() -> int:
-    match sys.argv[1:]:
-        case ["audit", first, *more]:
-            return max(audit(folder) for folder in [first, *more])
-        case ["show" | "trailers" as command, folder, name]:
-            show(folder, name, command == "trailers")
-            return 0
-    print(__doc__, file=sys.stderr)
+def main(arguments: list[str]) -> int:
+    if arguments in (["-h"], ["--help"]):
+        print(__doc__.strip())
+        return 0
+    command, *words = arguments or [""]
+    if command == "audit" and words:
+        return max([audit(folder) for folder in words])
+    if command in ("show", "trailers") and len(words) == 2:
+        show(*words, only_trailers=command == "trailers")
+        return 0
+    print(__doc__.strip(), file=sys.stderr)
     return 2
 
 
 try:
-    sys.exit(main())
+    sys.exit(main(sys.argv[1:]))
 except Error as error:
     sys.exit(f"cinguepo: {error}")

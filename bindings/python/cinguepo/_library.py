@@ -1,6 +1,8 @@
-"""The shared library of gixobj_c, gixobj_reencode and gixobj_edit: its structs, its declarations and its errors."""
+"""The shared library of gixobj_c, gixobj_c_reencode and gixobj_c_edit: its structs, its declarations and its errors."""
 import ctypes
+import functools
 import os
+import re
 from ctypes import POINTER, Structure, c_char_p, c_int32, c_int64, c_size_t, c_uint8, c_uint32, c_uint64
 from typing import Callable
 
@@ -73,11 +75,16 @@ class UnknownCodeError(Error, ValueError):
     """The number of a hash function or a kind is unknown."""
 
 
-class MissingLibraryError(Error, NotImplementedError):
-    """The shared library was built without this static library, which has the call."""
+class MissingLibraryError(Error, NotImplementedError, OSError):
+    """The shared library was built without this static library, which has the call. With a reason, it can't be loaded
+    at all."""
 
-    def __init__(self, library: str):
-        super().__init__(f"libcinguepo.so has no {library}: `make -C bindings/python` builds one that has it")
+    def __init__(self, library: str, reason: str = ""):
+        if reason:
+            what = f"libcinguepo.so can't be loaded: {reason}; `make -C bindings/python LIBRARIES={library}` builds one"
+        else:
+            what = f"libcinguepo.so has no {library}: `make -C bindings/python` builds one that has it"
+        super().__init__(what)
         self.library = library
 
 
@@ -143,8 +150,8 @@ FUNCTIONS = {
 }
 
 
-# static libraries that may be missing: each has one call, with its own name
-OPTIONAL = ("gixobj_reencode", "gixobj_edit")
+# static libraries that may be missing, each with its one call
+OPTIONAL = {"gixobj_c_reencode": "gixobj_reencode", "gixobj_c_edit": "gixobj_edit"}
 
 
 def _missing(library: str) -> Callable[..., int]:
@@ -156,20 +163,49 @@ def _missing(library: str) -> Callable[..., int]:
     return call
 
 
-def _load() -> tuple[ctypes.CDLL, tuple[str, ...]]:
-    """The shared library, and the static libraries that it has."""
+@functools.lru_cache(maxsize=None)
+def load() -> tuple[dict[str, Callable[..., int]], tuple[str, ...]]:
+    """The calls of the shared library, and the static libraries that it has. Raises MissingLibraryError without it."""
     folder = os.path.dirname(os.path.abspath(__file__))
-    lib = ctypes.CDLL(os.environ.get("CINGUEPO_LIB", os.path.join(folder, "libcinguepo.so")))
-    missing = [name for name in OPTIONAL if not hasattr(lib, name)]
-    for name in missing:
-        setattr(lib, name, _missing(name))
-    for name, types in FUNCTIONS.items():
-        call = getattr(lib, name)
-        call.argtypes, call.restype = types, c_uint32
-    return lib, ("gixobj_c", *(name for name in OPTIONAL if name not in missing))
+    try:
+        shared = ctypes.CDLL(os.environ.get("CINGUEPO_LIB", os.path.join(folder, "libcinguepo.so")))
+        missing = [name for name, call in OPTIONAL.items() if not hasattr(shared, call)]
+        calls = {OPTIONAL[name]: _missing(name) for name in missing}
+        calls.update((name, getattr(shared, name)) for name in FUNCTIONS if name not in calls)
+    except (AttributeError, OSError) as error:
+        raise MissingLibraryError("gixobj_c", str(error)) from error
+    for name, call in calls.items():
+        call.argtypes, call.restype = FUNCTIONS[name], c_uint32
+    return calls, ("gixobj_c", *(name for name in OPTIONAL if name not in missing))
 
 
-lib, LIBRARIES = _load()
+class _Calls:
+    """The calls. The first use of one loads the shared library."""
+
+    def __getattr__(self, name: str) -> Callable[..., int]:
+        if name not in FUNCTIONS:
+            raise AttributeError(name)
+        self.__dict__.update(load()[0])
+        return self.__dict__[name]
+
+
+lib = _Calls()
+
+
+def code(number: int) -> int:
+    """The same number of a hash function or a kind. Others than those of 8 bits are rejected: ctypes truncates them."""
+    if not isinstance(number, int):
+        raise TypeError("a number, and not " + type(number).__name__)
+    if not 0 <= number < 256:
+        raise error_of(UNKNOWN_CODE)
+    return number
+
+
+def digest(id: str) -> bytes:
+    """The bytes of an id in hex. Anything but pairs of hex digits is rejected: bytes.fromhex skips spaces."""
+    if not re.fullmatch("(?:[0-9A-Fa-f]{2})*", id):
+        raise ValueError(f"an id has pairs of hex digits alone, and not {id!r}")
+    return bytes.fromhex(id)
 
 
 def plain(data: bytes) -> bytes:

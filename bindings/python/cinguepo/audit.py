@@ -1,47 +1,20 @@
 """The audit of a repository: the id, the encoding and the new encoding of each object, beside git fsck.
 
-New encodings are compared if the library has gixobj_reencode.
+New encodings are compared if the library has gixobj_c_reencode.
 """
 import collections
-import re
 import subprocess
 import sys
 import time
-from typing import Iterator
+from typing import Iterable
 
-from . import LIBRARIES, Hash, Kind, MalformedError, MissingLibraryError, NotEncodableError
+from . import Hash, Kind, MalformedError, MissingLibraryError, NotEncodableError
 from . import check, entries, reencode, tokens, verify
+from ._git import Object, Repository
+from ._library import load
 
-HAS_ENCODER = "gixobj_reencode" in LIBRARIES
-KINDS = {b"commit": Kind.COMMIT, b"tree": Kind.TREE, b"blob": Kind.BLOB, b"tag": Kind.TAG}
-
-
-def objects(folder: str) -> Iterator[tuple[str, bytes, bytes]]:
-    """The id in hex, the kind and the content of each object that git can read."""
-    command = ["git", "-C", folder, "cat-file", "--batch-all-objects", "--batch"]
-    with subprocess.Popen(command, stdout=subprocess.PIPE, stderr=subprocess.DEVNULL) as run:
-        assert run.stdout
-        while line := run.stdout.readline():
-            parts = line.split()
-            if len(parts) != 3:
-                yield parts[0].decode(), b"", b""
-                continue
-            content = run.stdout.read(int(parts[2]))
-            run.stdout.read(1)
-            yield parts[0].decode(), parts[1], content
-
-
-def reports_of_fsck(folder: str) -> dict[str, set[str]]:
-    """What git fsck reports of each object."""
-    found = collections.defaultdict(set)
-    command = ["git", "-C", folder, "fsck", "--full", "--no-dangling", "--no-progress"]
-    done = subprocess.run(command, capture_output=True, check=False)
-    for line in (done.stdout + done.stderr).decode(errors="replace").splitlines():
-        if report := re.match(r"(error|warning) in (\w+) ([0-9a-f]+): (\w+)", line):
-            found[report[3]].add(f"{report[1]} {report[4]}")
-        elif report := re.match(r"error.*?\b([0-9a-f]{64}|[0-9a-f]{40})\b", line):
-            found[report[1]].add("error")
-    return found
+ENCODER = "gixobj_c_reencode"
+KINDS = {"commit": Kind.COMMIT, "tree": Kind.TREE, "blob": Kind.BLOB, "tag": Kind.TAG}
 
 
 def is_valid_by_parts(kind: Kind, data: bytes, hash: Hash) -> bool:
@@ -64,40 +37,72 @@ def faults(oid: str, kind: Kind, data: bytes, hash: Hash) -> list[str]:
     if not is_valid:
         return found + ["malformed"]
     try:
-        if HAS_ENCODER and reencode(kind, data, hash) != data:
+        if ENCODER in load()[1] and reencode(kind, data, hash) != data:
             found.append("re-encodes differently")
     except NotEncodableError:
         found.append("not encodable")
     return found
 
 
-def audit(folder: str) -> int:
-    """Prints each object with a fault, then a line of counts, which also says if encodings weren't compared. The status
-    is 1 if an id differs or two calls disagree."""
+def faults_of(it: Object, hash: Hash) -> list[str]:
+    """The faults of what git read."""
+    if it.problem:
+        return [f"unreadable: {it.problem}"]
+    return faults(it.id, KINDS[it.kind], it.content, hash) if it.kind in KINDS else ["unknown kind"]
+
+
+class Report:
+    """The counts of an audit. It prints each object with a fault, next to what git fsck reports of it."""
+
+    def __init__(self, reports: dict[str, set[str]]):
+        self.reports = reports
+        self.kinds: collections.Counter[str] = collections.Counter()
+        self.size = self.faulty = 0
+        self.shown = time.monotonic()
+
+    def add(self, it: Object, found: Iterable[str]) -> None:
+        self.kinds[it.kind or "unreadable"] += 1
+        self.size += len(it.content)
+        self.add_faults(it.kind, it.id, found)
+        if sys.stderr.isatty() and time.monotonic() - self.shown > 1:
+            self.shown = time.monotonic()
+            print(f"\r{sum(self.kinds.values())} objects", end="\r", file=sys.stderr)
+
+    def add_faults(self, kind: str, oid: str, found: Iterable[str]) -> None:
+        if what := ", ".join(found):
+            self.faulty += 1
+            fsck = ", ".join(sorted(self.reports.get(oid, ()))) or "fine"
+            print(f"{kind or 'object':6} {oid} here: {what}; git fsck: {fsck}")
+
+
+def hash_of(folder: str) -> Hash:
+    """The hash function of a repository. Ends the program if git finds none."""
     command = ["git", "-C", folder, "rev-parse", "--show-object-format"]
     done = subprocess.run(command, capture_output=True, check=False)
     if done.returncode:
         sys.exit(f"cinguepo: {done.stderr.decode(errors='replace').strip()}")
-    hash = Hash.SHA256 if done.stdout.strip() == b"sha256" else Hash.SHA1
-    reports, counts, size, status = reports_of_fsck(folder), collections.Counter(), 0, 0
-    start = shown = time.monotonic()
-    for oid, word, data in objects(folder):
-        counts[word.decode() or "unreadable"] += 1
-        if not word:
-            continue
-        size += len(data)
-        found = faults(oid, KINDS[word], data, hash)
-        if found:
-            counts["faulty"] += 1
-            fsck = ", ".join(sorted(reports.get(oid, ()))) or "fine"
-            print(f"{word.decode():6} {oid} here: {', '.join(found)}; git fsck: {fsck}")
-        if "another id" in found or "calls disagree" in found:
-            status = 1
-        if sys.stderr.isatty() and time.monotonic() - shown > 1:
-            shown = time.monotonic()
-            print(f"\r{sum(counts.values())} objects", end="\r", file=sys.stderr)
+    return Hash.SHA256 if done.stdout.strip() == b"sha256" else Hash.SHA1
+
+
+def audit(folder: str) -> int:
+    """Prints each object with a fault, then each failure of git, then a line of counts, which also says if encodings
+    weren't compared. The status is 0 if git lists and reads all objects, and none has a fault; otherwise it is 1."""
+    hash, has_encoder, repository = hash_of(folder), ENCODER in load()[1], Repository(folder)
+    report, ids = Report(repository.reports()), repository.ids()
+    start = time.monotonic()
+    for it in repository.objects(ids):
+        report.add(it, faults_of(it, hash))
     seconds = time.monotonic() - start
-    names = ", ".join(f"{count} {name}" for name, count in counts.items())
-    note = "" if HAS_ENCODER else f"; encodings weren't compared: {MissingLibraryError('gixobj_reencode')}"
-    print(f"{folder}: {names}; {size / 1e6:.1f} MB in {seconds:.2f} s{note}")
-    return status
+    missing = {oid for oid, found in report.reports.items() if "missing" in found}.difference(ids)
+    for oid in sorted(missing):
+        report.add_faults("", oid, ["missing"])
+    for message in repository.failures:
+        print(f"git: {message}")
+    read = sum(report.kinds.values()) - report.kinds["unreadable"]
+    names = ", ".join(f"{count} {name}" for name, count in report.kinds.items() if count)
+    note = "" if has_encoder else f"; encodings weren't compared: {MissingLibraryError(ENCODER)}"
+    print(
+        f"{folder}: {read} of {len(ids) + len(missing)} objects read: {names or 'none'}, {report.faulty} faulty; "
+        f"{report.size / 1e6:.1f} MB in {seconds:.2f} s{note}"
+    )
+    return 1 if report.faulty or repository.failures or read != len(ids) else 0

@@ -40,6 +40,9 @@ pub fn unfold(lines: &[u8]) -> Vec<u8> {
 
 /// Returns the value of the first extra header of this name in a commit, or `None`. Lines after it aren't decoded.
 ///
+/// The result is `None` if all lines decode, and none is such a header. The bytes may then be no commit: the first lines
+/// of one, or no bytes at all. [`check`](crate::check) decodes all.
+///
 /// # Errors
 ///
 /// [`Error::Malformed`] if a line up to the header is malformed or, without the header, any line.

@@ -1,5 +1,5 @@
-//! Proved decoders of git's objects: safe Rust over the static libraries `gixobj_c`, `gixobj_reencode` and
-//! `gixobj_edit`.
+//! Proved decoders of git's objects: safe Rust over the static libraries `gixobj_c`,
+//! `gixobj_c_reencode` and `gixobj_c_edit`.
 //!
 //! Nothing is kept between two calls. Slices in results borrow the input.
 //!

@@ -18,6 +18,14 @@ pub fn message(bytes: &[u8]) -> (&[u8], Option<&[u8]>) {
 
 /// Returns the title of a message on one line.
 ///
+/// The title is that of [`message`], without the white space at its beginning and end. Its lines are joined by spaces.
+/// `%s` of `git log` keeps a space at the beginning, skips empty lines there, and ends before a line of white space.
+///
+/// ```
+/// assert_eq!(cinguepo::summary(b"a\nb\n\nc"), Ok(b"a b".to_vec()));
+/// assert_eq!(cinguepo::summary(b"\n\ntitle"), Ok(Vec::new()));
+/// ```
+///
 /// # Errors
 ///
 /// [`Error::OutOfMemory`].

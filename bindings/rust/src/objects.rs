@@ -2,7 +2,11 @@
 use crate::{Error, raw};
 use std::fmt;
 
-/// A hash function.
+/// A hash function. Numbers don't convert into one, so none is truncated.
+///
+/// ```compile_fail
+/// let hash = 257 as cinguepo::HashKind;
+/// ```
 #[derive(Clone, Copy, Debug, PartialEq, Eq)]
 #[repr(u8)]
 pub enum HashKind {
@@ -22,7 +26,11 @@ impl HashKind {
     }
 }
 
-/// A kind of objects, with git's number.
+/// A kind of objects, with git's number. Numbers don't convert into one, so none is truncated.
+///
+/// ```compile_fail
+/// let kind = 259 as cinguepo::Kind;
+/// ```
 #[derive(Clone, Copy, Debug, PartialEq, Eq)]
 #[repr(u8)]
 pub enum Kind {

@@ -4,7 +4,7 @@ use crate::{Error, HashKind, piece, raw};
 /// An entry of a tree, borrowed from its encoding.
 #[derive(Clone, Copy, Debug, PartialEq, Eq)]
 pub struct Entry<'a> {
-    /// The mode, as in `0o100644`.
+    /// The mode, the number of its octal digits: `0o100644`. For 140000 to 147777 it is `0o040000`.
     pub mode: u32,
     /// The name.
     pub name: &'a [u8],

@@ -95,6 +95,11 @@ fn entries_end_at_an_error() {
     assert_eq!(found, [Ok(first), Err(Error::Malformed)]);
     assert_eq!(all_entries(SHA1, &tree), Err(Error::Malformed));
     assert_eq!(entries(SHA1, b"").next(), None);
+    let id = [0; 20];
+    let other = [b"100664 a\0", &id[..], b"777 b\0", &id, b"140000 c\0", &id].concat();
+    let modes = entries(SHA1, &other).map(|it| it.map(|entry| entry.mode));
+    let modes: Result<Vec<_>, _> = modes.collect();
+    assert_eq!(modes, Ok(vec![0o100664, 0o777, 0o40000]));
     assert_eq!(all_entries(SHA1, b""), Ok(Vec::new()));
 }
 
@@ -180,6 +185,11 @@ fn headers_have_names() {
     for name in [&b"encoding"[..], b"author", b"gpg", b""] {
         assert_eq!(commit_header(SHA1, COMMIT, name), Ok(None));
     }
+    // the first line of a commit, and no bytes
+    for bytes in [&COMMIT[..46], b""] {
+        assert_eq!(commit_header(SHA1, bytes, b"gpgsig"), Ok(None));
+        assert_eq!(commit_signature(SHA1, bytes), Ok(None));
+    }
     let prefix = &COMMIT[..150];
     assert_eq!(
         commit_header(SHA1, prefix, b"gpgsig"),
@@ -228,6 +238,8 @@ fn messages_split() {
     assert_eq!(message(bytes), (&b"a\nb"[..], Some(&bytes[5..])));
     assert_eq!(message(b""), (&b""[..], None));
     assert_eq!(summary(bytes).as_deref(), Ok(&b"a b"[..]));
+    assert_eq!(summary(b" x").as_deref(), Ok(&b"x"[..]));
+    assert_eq!(summary(b"\n\ntitle").as_deref(), Ok(&b""[..]));
     let first = [b"Signed-off-by".to_vec(), b"A <a@b>".to_vec()];
     assert_eq!(trailer(bytes, 0), Ok(Some(first)));
     let second = [b"Acked-by".to_vec(), b"B C".to_vec()];
