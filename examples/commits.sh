@@ -3,7 +3,7 @@
 # Records each in FOLDER/FORMAT.answers, as git prints it:
 # - NAME.id (`git rev-parse`), NAME.bytes (`git cat-file commit`), NAME.shown (`git show`, field by field)
 # - NAME.signature, for a signed one: the value that `git verify-commit` passes to the verifier
-# The table crates/gixobj_replay/data/git-commits.tsv has these answers.
+# The table crates/gixobj_tests_replay/data/git-commits.tsv has these answers.
 set -e
 unset GIT_DIR GIT_WORK_TREE
 export GIT_CONFIG_GLOBAL=/dev/null GIT_CONFIG_NOSYSTEM=1

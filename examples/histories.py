@@ -1,5 +1,5 @@
 #!/usr/bin/env python3
-"""Makes a small history with `git fast-import`, and records what git prints of it for the program `gixobj_batch`.
+"""Makes a small history with `git fast-import`, and records what git prints of it for the program `gixobj_cli_batch`.
 
 `python3 examples/histories.py FOLDER` makes two repositories in a new folder, one for each object format. For each it
 writes FOLDER/FORMAT.batch, the output of `git cat-file --batch-all-objects --batch`, and what git prints:
@@ -10,7 +10,7 @@ writes FOLDER/FORMAT.batch, the output of `git cat-file --batch-all-objects --ba
 
 The last commit is a merge. A path has a quote and a letter outside ASCII; a file becomes a symbolic link, another one a
 directory; one entry is a submodule's commit. FOLDER/recorded.rt has the same as constants, for the tests. It is the
-file crates/gixobj_batch/src/recorded.rt.
+file crates/gixobj_cli_batch/src/recorded.rt.
 """
 
 import os

@@ -5,7 +5,7 @@
 prints the number, the commit and the tree of every hundredth step. `git fsck --strict` must find nothing. `git log`
 must print 1,000 commits, each with the one before it as its only parent.
 
-The steps follow a rule, by which crates/gix_object_tests/src/imports/thousand.rt makes them too. Step k, from 0, inserts a
+The steps follow a rule, by which crates/gixobj_tests_api/src/imports/thousand.rt makes them too. Step k, from 0, inserts a
 file three directories deep and a program at the root. Each is the blob of `k` and a newline. The step also removes a
 file, which may be missing.
 """

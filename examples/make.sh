@@ -12,7 +12,7 @@
 #   commit-sha256.loose commit 148 e4aa6687cfcffe18739323f0e6717f02235e94bc9eb7a83ac0b46a510819fb5d
 #   tag-sha256.loose tag 140 da49275eeb470f018e41d0d56c9dc7e1c9e996f08b0093a2b2daf1d3e11d3148
 #
-# Tests of gixobj_script_tests compare these with what the program prints, and both trees with `git ls-tree`.
+# Tests of gixobj_tests_cli compare these with what the program prints, and both trees with `git ls-tree`.
 set -e
 out=$(cd "$(dirname "$0")" && pwd)
 mkdir -p "$1"

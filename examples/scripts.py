@@ -2,7 +2,7 @@
 """Makes scripts of random edits, and what `gixobj edit` prints for each.
 
 `python3 examples/scripts.py FOLDER` makes repositories in a new folder, two with ids of SHA-1 and one of SHA-256. It
-prints the table of the scripts, crates/gixobj_replay_messages/data/random-scripts.tsv. Each script has a line with its
+prints the table of the scripts, crates/gixobj_tests_replay_messages/data/random-scripts.tsv. Each script has a line with its
 name, `git`, the object format, the script and its output.
 
 The ids are git's. Each script also edits a plain set of files, and at a write git makes the tree of those files:

@@ -3,7 +3,7 @@
 
 `python3 examples/scripts_by_model.py FOLDER TABLE` makes two repositories in a new folder, one for each object format,
 and prints the table with a new last column. Lines of the head are unchanged, and so are rows whose output is the number
-of a malformed line. The tables are scripts.tsv and stored-scripts.tsv of crates/gixobj_replay_messages/data.
+of a malformed line. The tables are scripts.tsv and stored-scripts.tsv of crates/gixobj_tests_replay_messages/data.
 
 A table with a column of objects before the script is one of scripts over a store of these objects. `git hash-object`
 makes their ids, and checks commits and tags. The last line of such an output is `causes`.

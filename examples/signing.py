@@ -3,7 +3,7 @@
 
 `python3 examples/signing.py FOLDER` makes throw-away keys and two repositories in a new folder, one for each object
 format. It prints a table of the calls of the programs, their output, and the outcomes, which is
-crates/gixobj_replay_messages/data/programs.tsv. The programs get exactly the arguments that `sign` and `verify` pass to
+crates/gixobj_tests_replay_messages/data/programs.tsv. The programs get exactly the arguments that `sign` and `verify` pass to
 a runner. The programs run in UTC, and times are in UTC.
 
 The outcome of a report follows from gnupg, doc/DETAILS, and from ssh-keygen(1), `-Y verify`. Git calls the programs in

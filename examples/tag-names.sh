@@ -2,7 +2,7 @@
 # Prints which names of tags are valid, by git: `sh examples/tag-names.sh`. For each name it prints a line, its bytes in
 # hex, a space, and `ok` or `bad`, by `git check-ref-format refs/tags/NAME`. Before each group of names it prints a line
 # that begins with `#`. An argument of a command can't have a zero byte, so no name has one.
-# The table crates/gixobj_replay_messages/data/git-tag-names.tsv has these answers.
+# The table crates/gixobj_tests_replay_messages/data/git-tag-names.tsv has these answers.
 set -e
 
 # check NAME: prints the line of the name.

@@ -6,7 +6,7 @@
 # - NAME.shown (`git for-each-ref`): target, kind, name and tagger's line, each on a line, and the content
 # - NAME.tagger (`git for-each-ref`): name, email and time, each on a line
 # - NAME.signature (`git for-each-ref`)
-# The table crates/gixobj_replay_messages/data/git-tags.tsv has these answers.
+# The table crates/gixobj_tests_replay_messages/data/git-tags.tsv has these answers.
 set -e
 unset GIT_DIR GIT_WORK_TREE
 export GIT_CONFIG_GLOBAL=/dev/null GIT_CONFIG_NOSYSTEM=1

@@ -1,7 +1,7 @@
 #!/usr/bin/env python3
 """Prints the table of git's trailers: `python3 examples/trailers.py`.
 
-The table is crates/gixobj_replay_messages/data/git-trailers.tsv. Each body is the input of `git interpret-trailers
+The table is crates/gixobj_tests_replay_messages/data/git-trailers.tsv. Each body is the input of `git interpret-trailers
 --parse --no-divider` after a title and an empty line, since git takes the first paragraph of a message for its title.
 BY_RULE has the bodies that this repository decodes differently on purpose. docs/DIFFERENCES.md has the reason.
 """

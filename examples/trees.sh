@@ -4,7 +4,7 @@
 # - NAME.hex (`git cat-file tree`, in hex), NAME.id (`git hash-object -t tree --stdin`)
 # - NAME.type (`git cat-file -t` and `-s`), NAME.listed (`git ls-tree -z`)
 # Most trees are made by `git mktree`, and those that it can't make by `git hash-object --literally`. Names have the
-# escapes of printf. The table crates/gixobj_replay/data/git-trees.tsv has these answers.
+# escapes of printf. The table crates/gixobj_tests_replay/data/git-trees.tsv has these answers.
 set -e
 unset GIT_DIR GIT_WORK_TREE
 export GIT_CONFIG_GLOBAL=/dev/null GIT_CONFIG_NOSYSTEM=1
