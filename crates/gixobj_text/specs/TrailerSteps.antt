@@ -48,6 +48,11 @@ NextTrailer before (Some (Err error)) after =
     × (length (remaining_bytes after) < length (remaining_bytes before))
 NextTrailer before None after = (remaining_trailers before ≡ []) × (remaining_bytes after ≡ [])
 
+-- the first trailer of the lines; the lines after it have the others, and are the last lines
+pub record IsFirstTrailer (lines : List ℕ) (trailer : TrailerView) (rest : List ℕ) : Type 0 where
+  pub trailers : trailers_of_bytes lines ≡ trailer ∷ trailers_of_bytes rest
+  pub last_lines : HasLastLines lines rest
+
 -- at most one trailer for each remaining byte
 abbrev pub remaining_trailer_count : Trailers → Count
 remaining_trailer_count it = at_most (length (remaining_bytes it))

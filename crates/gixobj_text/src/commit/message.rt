@@ -1,19 +1,22 @@
 //! Title, body, summary and trailers of commit messages (git-commit, "DISCUSSION"; git-interpret-trailers).
-ghost use Rattle.std.specs.Prelude.{◌≡◌, ◌≤◌, IfErr, IfOk, IfNone, IfSome, None, drop, length, take, true};
+ghost use Rattle.std.specs.Prelude.{◌≡◌, ◌≤◌, [], IfErr, IfOk, IfNone, IfSome, MatchOption, None, drop, length, take, true};
 ghost use Rattle.std.specs.Cow.{cow_slice_items};
 ghost use Rattle.bstr.specs.BStr.{bstr_bytes};
+ghost use Rattle.bstr.specs.Text.{lines_of};
 ghost use Rattle.gixobj_hash.specs.Optional.{bytes_if_some};
-ghost use Rattle.gixobj_text.specs.TrailerSteps.{is_owned, remaining_bytes};
+ghost use Rattle.gixobj_text.specs.TrailerSteps.{IsFirstTrailer, is_owned, remaining_bytes, trailer_view};
 ghost use Rattle.gixobj_text.specs.MessageTrailers.{HasTrailerBlock};
 ghost use Rattle.gixobj_text.specs.SummaryPieces.{is_multiline};
 ghost use Rattle.gixobj_text.specs.Titles.{SplitsTitle, summary_of};
 ghost use Rattle.gixobj_text.specs.TrailerBlocks.{IsTrailerBlockStart};
+ghost use Rattle.gixobj_text.specs.Trailers.{trailers_of_bytes};
+ghost use Rattle.gixobj_text.specs.Unfolding.{first_is_folded};
 
 pub mod body;
 mod decode;
 pub mod summary;
 
-use body::{MessageBlocks, Trailers, block_start};
+use body::{MessageBlocks, TrailerRef, Trailers, block_start};
 use bstr::BStr;
 use decode::message_title_and_body;
 use gixobj_hash::memory::OutOfMemory;
@@ -121,7 +124,14 @@ impl<'a> BodyRef<'a> {
         ensures { remaining_bytes result ≡ drop (trailer_block_start self.now)
             (bytes_of_body self.now) }
     {
-        Trailers::new(alloc, &self.body.as_bytes()[self.trailer_start..])
+        Trailers::new(alloc, self.trailer_block())
+    }
+
+    /// Returns the trailer block.
+    fn trailer_block(&self) -> &'a [u8]
+        ensures { result.now ≡ drop (trailer_block_start self.now) (bytes_of_body self.now) }
+    {
+        &self.body.as_bytes()[self.trailer_start..]
     }
 
     /// Returns an iterator over the messages of the body, in order, each with the trailers that follow it.
@@ -138,8 +148,37 @@ impl<'a> BodyRef<'a> {
 pub fn message_trailers<'a>(alloc: Global, message: BStr<'a>) -> Trailers<'a>
     ensures { HasTrailerBlock (bstr_bytes message.entry) (remaining_bytes result) }
 {
-    match MessageRef::from_bytes(message.as_bytes()).body() {
-        Some(body) => body.trailers(alloc),
-        None => Trailers::new(alloc, b""),
+    Trailers::new(alloc, trailer_block(message.as_bytes()))
+}
+
+/// Returns the trailer block at the end of a message, empty without one. Allocates nothing.
+pub fn trailer_block(message: &[u8]) -> &[u8]
+    ensures { HasTrailerBlock message.now result.now }
+{
+    match MessageRef::from_bytes(message).body() {
+        Some(body) => body.trailer_block(),
+        None => b"",
+    }
+}
+
+/// Decodes the first trailer of a trailer block, or of its last lines. Returns it with the lines after it, or `None` if
+/// there is none. A value of one line allocates nothing; a value of several lines is allocated.
+///
+/// # Errors
+///
+/// [`OutOfMemory`] if the allocation for a value of several lines fails.
+pub fn first_trailer(
+    alloc: Global,
+    lines: &[u8],
+) -> Result<Option<(TrailerRef<'_>, &[u8])>, OutOfMemory>
+    ensures found { IfOk result (λ found. MatchOption found (trailers_of_bytes lines.now ≡ [])
+        (λ it. IsFirstTrailer lines.now (trailer_view it.0) it.1.now)) }
+    ensures error { IfErr result (λ _. first_is_folded (lines_of lines.now) ≡ true) }
+{
+    let mut trailers = Trailers::new(alloc, lines);
+    match trailers.next() {
+        Some(Ok(trailer)) => Ok(Some((trailer, trailers.remaining()))),
+        Some(Err(error)) => Err(error),
+        None => Ok(None),
     }
 }

@@ -114,6 +114,16 @@ impl<'a> Trailers<'a> {
     }
 }
 
+/// Access
+impl<'a> Trailers<'a> {
+    /// Returns the remaining bytes.
+    pub(crate) fn remaining(&self) -> &'a [u8]
+        ensures { result.now ≡ remaining_bytes self.now }
+    {
+        self.cursor
+    }
+}
+
 /// Yields trailers in order. A value of one line allocates nothing; a value of several lines is allocated.
 ///
 /// # Errors
