@@ -1,94 +1,81 @@
--- The trailers that a search for an index consumes, and what is written of the found one.
-use Rattle.std.proofs.Common.{◌≡◌, ◌≤◌, ◌+◌, ◌++◌, ℕ, List, [], ap, append_assoc, arith, drop, inl, length, refl, subst, sym, ◌∙◌}
-use Rattle.std.proofs.lemmas.List.{drop-drop, length-drop}
-use Rattle.std.specs.Prelude.{Err, None, Ok, Result, Some}
+-- The lines of a trailer block are at the end of the message, and so is what follows a trailer.
+use Rattle.std.proofs.Common.{◌≡◌, ◌++◌, ℕ, List, [], ap, append_assoc, drop, inl, inr, subst, sym, take, ◌∙◌}
+use Rattle.std.proofs.lemmas.List.{append-nil, take-append-drop}
+use Rattle.std.proofs.lemmas.List.Folds.{concat-append}
+use Rattle.std.specs.List.{concat}
+use Rattle.std.specs.Prelude.{Option, Some, None}
+use Rattle.bstr.proofs.lemmas.RestLemmas.{concat-lines_of}
 use Rattle.bstr.specs.Text.{lines_of}
 use Rattle.gixobj_c_codes.specs.Buffers.{WritesTwo}
-use Rattle.gixobj_c.specs.Trailers.{HasNoTrailerAt, HasTrailerAt, IsTrailerCall, NeedsTrailerAllocation}
-use Rattle.gixobj_hash.specs.declared.memory.OutOfMemory.{OutOfMemory}
+use Rattle.gixobj_c.proofs.Pieces.{rest_of_tail}
+use Rattle.gixobj_c.specs.Spans.{HasPieceBefore}
+use Rattle.gixobj_c.specs.Trailers.{HasLinesAt, IsTrailerCall, MovesTo}
+use Rattle.gixobj_c.specs.declared.commits.Cursor.{Cursor}
 use Rattle.gixobj_text.specs.FirstLines.{HasLastLines}
-use Rattle.gixobj_text.specs.MessageTrailers.{HasTrailerBlock}
-use Rattle.gixobj_text.specs.TrailerSteps.{NextTrailer, remaining_bytes, remaining_trailers, trailer_view}
-use Rattle.gixobj_text.specs.Trailers.{TrailerView, trailers_of_bytes}
-use Rattle.gixobj_text.specs.declared.commit.message.body.trailers.TrailerRef.{TrailerRef}
-use Rattle.gixobj_text.specs.declared.commit.message.body.trailers.Trailers.{Trailers}
+use Rattle.gixobj_text.specs.MessageTrailers.{BodyHasTrailerBlock, HasTrailerBlock}
+use Rattle.gixobj_text.specs.Titles.{SplitsTitle}
+use Rattle.gixobj_text.specs.TrailerSteps.{IsFirstTrailer}
+use Rattle.gixobj_text.specs.Trailers.{TrailerView}
 
-last_lines_trans : (first second third : List ℕ) → HasLastLines first second → HasLastLines second third → HasLastLines first third
-last_lines_trans first second third one other = record {
-  skipped = one.skipped ++ other.skipped;
-  joined = one.joined ∙ ap (λ (lines : List (List ℕ)). one.skipped ++ lines) other.joined
-      ∙ sym (append_assoc one.skipped other.skipped (lines_of third));
-}
+-- the bytes end with the rest
+EndsWith : List ℕ → List ℕ → Type 0
+EndsWith bytes rest = (prefix : List ℕ) × (bytes ≡ prefix ++ rest)
 
--- the first trailers of the message are consumed, and the others remain, on the last lines of the block
-pub record HasConsumed (message : List ℕ) (consumed : ℕ) (it : Trailers) : Type 0 where
-  pub block : List ℕ
-  pub has : HasTrailerBlock message block
-  pub last_lines : HasLastLines block (remaining_bytes it)
-  pub rest : drop consumed (trailers_of_bytes block) ≡ remaining_trailers it
+ends_with_trans : (bytes middle rest : List ℕ) → EndsWith bytes middle → EndsWith middle rest → EndsWith bytes rest
+unfolding EndsWith
+ends_with_trans bytes middle rest (one, joined) (other, more) =
+    (one ++ other, joined ∙ ap (λ (it : List ℕ). one ++ it) more ∙ sym (append_assoc one other rest))
 
-pub has_consumed_none : (message : List ℕ) (n : ℕ) (it : Trailers) → HasTrailerBlock message (remaining_bytes it) → n ≡ 0 → HasConsumed message n it
-has_consumed_none message n it has none = record {
-  block = remaining_bytes it;
-  has = has;
-  last_lines = record { skipped = []; joined = refl };
-  rest = ap (λ (k : ℕ). drop k (remaining_trailers it)) none;
-}
+ends_with_last_lines : (bytes rest : List ℕ) → HasLastLines bytes rest → EndsWith bytes rest
+unfolding EndsWith
+ends_with_last_lines bytes rest has = (
+  concat has.skipped,
+  sym (concat-lines_of bytes) ∙ ap concat has.joined ∙ concat-append has.skipped (lines_of rest)
+      ∙ ap (λ (it : List ℕ). concat has.skipped ++ it) (concat-lines_of rest),
+)
 
-pub has_consumed_next : (message : List ℕ) (consumed next : ℕ) (before after : Trailers) (answer : Result TrailerRef OutOfMemory) (trailer : TrailerRef)
-    → HasConsumed message consumed before → NextTrailer before (Some answer) after → answer ≡ Ok trailer → next ≡ consumed + 1
-    → HasConsumed message next after
-has_consumed_next message consumed next before after answer trailer it steps is same =
-    let step : NextTrailer before (Some (Ok trailer)) after = subst (λ (it : Result TrailerRef OutOfMemory). NextTrailer before (Some it) after) is steps in
-    record {
-      block = it.block;
-      has = it.has;
-      last_lines = last_lines_trans it.block (remaining_bytes before) (remaining_bytes after) it.last_lines step.3;
-      rest = ap (λ (n : ℕ). drop n (trailers_of_bytes it.block)) same ∙ sym (drop-drop 1 consumed (trailers_of_bytes it.block))
-          ∙ ap (drop 1) (it.rest ∙ step.0);
-    }
-
-pub trailer_of_next : (message : List ℕ) (consumed index : ℕ) (before after : Trailers) (answer : Result TrailerRef OutOfMemory) (trailer : TrailerRef)
-    → HasConsumed message consumed before → NextTrailer before (Some answer) after → answer ≡ Ok trailer → consumed ≡ index
-    → HasTrailerAt message index (trailer_view trailer)
-trailer_of_next message consumed index before after answer trailer it steps is same =
-    let step : NextTrailer before (Some (Ok trailer)) after = subst (λ (it : Result TrailerRef OutOfMemory). NextTrailer before (Some it) after) is steps in
-    record {
-      trailers = trailers_of_bytes it.block;
-      rest = remaining_trailers after;
-      has = (it.block, it.has, refl);
-      found = ap (λ (n : ℕ). drop n (trailers_of_bytes it.block)) (sym same) ∙ it.rest ∙ step.0;
-    }
-
-pub no_trailer_of_has_consumed : (message : List ℕ) (consumed index : ℕ) (before after : Trailers) → HasConsumed message consumed before
-    → NextTrailer before None after → consumed ≤ index → HasNoTrailerAt message index
-no_trailer_of_has_consumed message consumed index before after it step less =
-    let none : length (drop consumed (trailers_of_bytes it.block)) ≡ 0 = ap length (it.rest ∙ step.0) in
-    (trailers_of_bytes it.block, (it.block, it.has, refl), omega (arith, none, length-drop consumed (trailers_of_bytes it.block), less))
-
-pub allocation_of_next : (message : List ℕ) (consumed index : ℕ) (before after : Trailers) (answer : Result TrailerRef OutOfMemory) (error : OutOfMemory)
-    → HasConsumed message consumed before → NextTrailer before (Some answer) after → answer ≡ Err error → consumed ≤ index
-    → NeedsTrailerAllocation message index
-allocation_of_next message consumed index before after answer error it steps is less =
-    let step : NextTrailer before (Some (Err error)) after = subst (λ (it : Result TrailerRef OutOfMemory). NextTrailer before (Some it) after) is steps in (
-      consumed,
-      less,
-      record {
-        block = it.block;
-        rest = remaining_bytes before;
-        has = it.has;
-        last_lines = it.last_lines;
-        consumed = it.rest;
-        folded = step.0;
-      },
+ends_with_block_of : (message title : List ℕ) (body : Option (List ℕ)) (block : List ℕ) → SplitsTitle message title body → BodyHasTrailerBlock body block
+    → EndsWith message block
+unfolding EndsWith
+ends_with_block_of message title None block split none = (message, sym (append-nil message) ∙ ap (λ (it : List ℕ). message ++ it) (sym none))
+ends_with_block_of message title (Some body) block (split, some) (start, is, same) =
+    let here = split.here in
+    let whole : body ≡ take start body ++ block = sym (take-append-drop start body) ∙ ap (λ (it : List ℕ). take start body ++ it) (sym same) in (
+      title ++ here.first ++ here.second ++ take start body,
+      here.joined ∙ ap (λ (it : List ℕ). title ++ here.first ++ here.second ++ it) whole
+          ∙ sym (append_assoc (title ++ here.first ++ here.second) (take start body) block),
     )
 
-pub trailer_call_of_written : (message first second a b c d : List ℕ) (index i m j n status : ℕ) (trailer : TrailerView) → HasTrailerAt message index trailer
-    → first ≡ trailer.token → second ≡ trailer.value → WritesTwo first a b m second c d n status → IsTrailerCall message index a b i m c d j n status
-trailer_call_of_written message first second a b c d index i m j n status trailer has same other writes =
+ends_with_block : (message block : List ℕ) → HasTrailerBlock message block → EndsWith message block
+ends_with_block message block has = ends_with_block_of message has.title has.body block has.split has.has
+
+ends_with_lines : (message : List ℕ) (offset state : ℕ) (lines : List ℕ) → HasLinesAt message offset state lines → EndsWith (drop offset message) lines
+unfolding EndsWith
+ends_with_lines message offset state lines (within, inl (zero, has)) = ends_with_block (drop offset message) lines has
+ends_with_lines message offset state lines (within, inr (one, same)) = ([], sym same)
+
+rest_of_end : (message : List ℕ) (offset : ℕ) (rest : List ℕ) → EndsWith (drop offset message) rest → HasPieceBefore message rest 0
+unfolding EndsWith
+rest_of_end message offset rest (piece, joined) = rest_of_tail message offset piece rest joined
+
+-- what follows a trailer of the lines is at the end of the message
+pub rest_of_lines : (message : List ℕ) (offset state : ℕ) (lines : List ℕ) (trailer : TrailerView) (rest : List ℕ) → HasLinesAt message offset state lines
+    → IsFirstTrailer lines trailer rest → HasPieceBefore message rest 0
+rest_of_lines message offset state lines trailer rest has is =
+    rest_of_end message offset rest
+    (ends_with_trans (drop offset message) lines rest (ends_with_lines message offset state lines has) (ends_with_last_lines lines rest is.last_lines))
+
+pub trailer_call_of_written : (message : List ℕ) (old new : Cursor) (lines rest first second a b c d : List ℕ) (i m j n status : ℕ) (trailer : TrailerView)
+    → HasLinesAt message old.offset old.state lines → IsFirstTrailer lines trailer rest → MovesTo message rest old new status
+    → first ≡ trailer.token → second ≡ trailer.value → WritesTwo first a b m second c d n status → IsTrailerCall message old new a b i m c d j n status
+trailer_call_of_written message old new lines rest first second a b c d i m j n status trailer has is moves same other writes =
     inl (
+      lines,
       trailer,
+      rest,
       has,
+      is,
+      moves,
       subst (λ (it : List ℕ). WritesTwo it a b m trailer.value c d n status) same
           (subst (λ (it : List ℕ). WritesTwo first a b m it c d n status) other writes),
     )

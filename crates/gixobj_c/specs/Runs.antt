@@ -1,15 +1,18 @@
 -- Calls from a cursor of zeros on, one after another: they find what a reader yields.
-use Rattle.std.specs.Prelude.{ℕ, List, [], ◌∷◌, Option, Some, None}
+use Rattle.std.specs.Prelude.{◌≡◌, ◌⊎◌, ℕ, List, [], ◌∷◌, Option, Some, None}
 use Rattle.gixobj_c.specs.Commits.{IsTokenOfLine}
 use Rattle.gixobj_c.specs.Tags.{IsTokenOfTag}
 use Rattle.gixobj_c.specs.declared.commits.CommitToken.{CommitToken}
 use Rattle.gixobj_c.specs.declared.tags.TagToken.{TagToken}
-use Rattle.gixobj_grammar.specs.Lines.{BeginsWithLine, LineView}
+use Rattle.gixobj_c_codes.specs.Codes.{malformed, out_of_memory, unknown_code}
+use Rattle.gixobj_grammar.specs.Lines.{BeginsWithLine, BeginsWithSomeLine, LineView}
 use Rattle.gixobj_grammar.specs.TagTokens.{BeginsWithTagToken, TagTokenView}
+use Rattle.gixobj_grammar.specs.declared.lines.State as line
 use Rattle.gixobj_grammar.specs.declared.lines.State.TheVariants as line_state
+use Rattle.gixobj_grammar.specs.declared.tokens.State as token
 use Rattle.gixobj_grammar.specs.declared.tokens.State.TheVariants as token_state
 use Rattle.gixobj_hash.specs.Runs as runs
-use Rattle.gixobj_hash.specs.Runs.{complete}
+use Rattle.gixobj_hash.specs.Runs.{broken, complete}
 use Rattle.gixobj_hash.specs.declared.hash.kind.Kind.{Kind}
 
 -- as many items as pieces, each related to the piece at its position
@@ -47,3 +50,21 @@ AreCommitTokensOf None commit tokens = ⊥
 abbrev pub AreTagTokensOf : Option Kind → List ℕ → List TagToken → Type 0
 AreTagTokensOf (Some kind) tag tokens = AreTagTokens kind tag tokens
 AreTagTokensOf None tag tokens = ⊥
+
+-- why not all tokens of the commit are found: after some lines the bytes do not begin with another; or an allocation
+-- failed, for a header or for the tokens, so there is a line
+abbrev pub IsCommitRunStatus : Option Kind → List ℕ → ℕ → Type 0
+IsCommitRunStatus (Some kind) commit status = ((status ≡ malformed)
+    × ((lines : List LineView) × runs.Yields (BeginsWithLine kind) line_state.Tree commit lines broken))
+    ⊎ ((status ≡ out_of_memory)
+    × ((after : line.State) × (rest : List ℕ) × BeginsWithSomeLine kind line_state.Tree commit after rest))
+IsCommitRunStatus None commit status = status ≡ unknown_code
+
+-- why not all tokens of the tag are found: after some tokens the bytes do not begin with another; or an allocation for
+-- the tokens failed, so there is one
+abbrev pub IsTagRunStatus : Option Kind → List ℕ → ℕ → Type 0
+IsTagRunStatus (Some kind) tag status = ((status ≡ malformed)
+    × ((found : List TagTokenView) × runs.Yields (BeginsWithTagToken kind) token_state.Target tag found broken))
+    ⊎ ((status ≡ out_of_memory) × ((first : TagTokenView) × (after : token.State) × (rest : List ℕ)
+    × BeginsWithTagToken kind token_state.Target tag first after rest))
+IsTagRunStatus None tag status = status ≡ unknown_code

@@ -1,7 +1,7 @@
 //! Laws of the calls over cursors: from a cursor of zeros on they find exactly what the readers of commits and tags
 //! yield, and then that none follows.
-ghost use Rattle.std.specs.Prelude.{IfOk};
-ghost use Rattle.gixobj_c.specs.Runs.{AreCommitTokensOf, AreTagTokensOf};
+ghost use Rattle.std.specs.Prelude.{MatchResult};
+ghost use Rattle.gixobj_c.specs.Runs.{AreCommitTokensOf, AreTagTokensOf, IsCommitRunStatus, IsTagRunStatus};
 ghost use Rattle.gixobj_c_codes.specs.Codes.{hash_of_code as hash_of};
 
 use crate::commits::{CommitToken, Cursor, gixobj_commit_token};
@@ -14,10 +14,14 @@ use std::alloc::Global;
 ///
 /// # Errors
 ///
-/// The status of the call that found no token, other than [`AT_END`]; [`OUT_OF_MEMORY`] also without memory for the
-/// tokens.
+/// The status of the call that found no token, other than [`AT_END`]: [`UNKNOWN_CODE`], [`MALFORMED`], or
+/// [`OUT_OF_MEMORY`], which is also the error without memory for the tokens.
+///
+/// [`UNKNOWN_CODE`]: gixobj_c_codes::codes::UNKNOWN_CODE
+/// [`MALFORMED`]: gixobj_c_codes::codes::MALFORMED
 pub fn commit_tokens(alloc: Global, hash: u8, commit: &[u8]) -> Result<Vec<CommitToken>, u32>
-    ensures { IfOk result (λ tokens. AreCommitTokensOf (hash_of hash) commit.now tokens.items) }
+    ensures { MatchResult result (λ tokens. AreCommitTokensOf (hash_of hash) commit.now tokens.items)
+        (IsCommitRunStatus (hash_of hash) commit.now) }
 {
     let mut cursor = Cursor {
         offset: 0,
@@ -49,7 +53,8 @@ pub fn commit_tokens(alloc: Global, hash: u8, commit: &[u8]) -> Result<Vec<Commi
 ///
 /// The status of the call that found no token, other than [`AT_END`]; [`OUT_OF_MEMORY`] without memory for the tokens.
 pub fn tag_tokens(alloc: Global, hash: u8, tag: &[u8]) -> Result<Vec<TagToken>, u32>
-    ensures { IfOk result (λ tokens. AreTagTokensOf (hash_of hash) tag.now tokens.items) }
+    ensures { MatchResult result (λ tokens. AreTagTokensOf (hash_of hash) tag.now tokens.items)
+        (IsTagRunStatus (hash_of hash) tag.now) }
 {
     let mut cursor = Cursor {
         offset: 0,

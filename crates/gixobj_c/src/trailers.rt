@@ -1,70 +1,69 @@
 //! The trailers of messages.
-ghost use Rattle.std.specs.Prelude.{◌≡◌, IfOk, MatchOption, OnErr};
-ghost use Rattle.bstr.specs.BStr.{bstr_bytes};
-ghost use Rattle.gixobj_c.specs.Trailers.{HasNoTrailerAt, HasTrailerAt, IsTrailerCall, NeedsTrailerAllocation};
-ghost use Rattle.gixobj_text.specs.TrailerSteps.{trailer_view};
+ghost use Rattle.std.specs.Prelude.{◌<◌, ◌≤◌, length};
+ghost use Rattle.gixobj_c.specs.Trailers.{HasLinesAt, IsTrailerCall};
 
-use bstr::BStr;
+use crate::commits::Cursor;
+use crate::spans::{bytes_from, offset_of};
 use gixobj_c_codes::buffers::write_two;
-use gixobj_c_codes::codes::{NOT_FOUND, OUT_OF_MEMORY};
-use gixobj_hash::memory::OutOfMemory;
-use gixobj_text::commit::message::body::TrailerRef;
-use gixobj_text::commit::message::message_trailers;
+use gixobj_c_codes::codes::{AT_END, BAD_OFFSET, DONE, OUT_OF_MEMORY, UNKNOWN_CODE};
+use gixobj_text::commit::message::{first_trailer, trailer_block};
 use std::alloc::Global;
 
-/// Writes the token and the value of the trailer with this index in a message (git-interpret-trailers). A value of
-/// several lines allocates, also those of the trailers before it.
+/// The state of a cursor in a message at whose offset the trailer block is looked for.
+const START: u8 = 0;
+/// The state of a cursor in a trailer block.
+const IN_BLOCK: u8 = 1;
+
+/// Writes the token and the value of the trailer at the cursor (git-interpret-trailers), and moves the cursor after it.
+/// A value of several lines allocates.
 #[unsafe(no_mangle)]
-#[tactic(auto, using(crate::proofs::TrailerCalls::trailer_call_of_written))]
+#[tactic(auto, using(crate::proofs::TrailerCalls::rest_of_lines, crate::proofs::TrailerCalls::trailer_call_of_written))]
 pub extern "C" fn gixobj_trailer(
     alloc: Global,
     message: &[u8],
-    index: usize,
+    cursor: &mut Cursor,
     token: &mut [u8],
     token_len: &mut usize,
     value: &mut [u8],
     value_len: &mut usize,
 ) -> u32
-    ensures { IsTrailerCall message.now index token.old token.new token_len.old token_len.new
-        value.old value.new value_len.old value_len.new result }
+    ensures { IsTrailerCall message.now cursor.old cursor.new token.old token.new
+        token_len.old token_len.new value.old value.new value_len.old value_len.new result }
 {
-    match trailer_at(alloc, BStr::new(message), index) {
-        Ok(Some(trailer)) => write_two(
-            trailer.token.as_bytes(),
-            token,
-            token_len,
-            &trailer.value,
-            value,
-            value_len,
-        ),
-        Ok(None) => NOT_FOUND,
+    if cursor.state > IN_BLOCK {
+        return UNKNOWN_CODE;
+    }
+    if cursor.offset > message.len() {
+        return BAD_OFFSET;
+    }
+    let lines = lines_at(message, cursor.offset, cursor.state);
+    match first_trailer(alloc, lines) {
+        Ok(Some((trailer, rest))) => {
+            let bytes = trailer.token.as_bytes();
+            let status = write_two(bytes, token, token_len, &trailer.value, value, value_len);
+            if status == DONE {
+                *cursor = Cursor {
+                    offset: offset_of(message, rest),
+                    state: IN_BLOCK,
+                };
+            }
+            status
+        }
+        Ok(None) => AT_END,
         Err(_) => OUT_OF_MEMORY,
     }
 }
 
-/// Returns the trailer with this index, or `None` if there are fewer.
-fn trailer_at<'a>(
-    alloc: Global,
-    message: BStr<'a>,
-    index: usize,
-) -> Result<Option<TrailerRef<'a>>, OutOfMemory>
-    ensures found { IfOk result (λ found. MatchOption found
-        (HasNoTrailerAt (bstr_bytes message.entry) index)
-        (λ it. HasTrailerAt (bstr_bytes message.entry) index (trailer_view it))) }
-    ensures error { OnErr result (NeedsTrailerAllocation (bstr_bytes message.entry) index) }
+/// Returns the lines whose trailers come at this offset.
+fn lines_at(message: &[u8], offset: usize, state: u8) -> &[u8]
+    requires offset { offset ≤ length message.now }
+    requires state { state < 2 }
+    ensures { HasLinesAt message.now offset state result.now }
 {
-    let mut trailers = message_trailers(alloc, message);
-    let mut remaining = index;
-    'each: loop {
-        match trailers.next() {
-            Some(Ok(trailer)) => {
-                if remaining == 0 {
-                    return Ok(Some(trailer));
-                }
-                remaining -= 1;
-            }
-            Some(Err(error)) => return Err(error),
-            None => return Ok(None),
-        }
+    let bytes = bytes_from(message, offset);
+    if state == START {
+        trailer_block(bytes)
+    } else {
+        bytes
     }
 }

@@ -1,5 +1,5 @@
 -- Each call adds the token that it found; at the end there are all.
-use Rattle.gixobj_c.proofs.CursorRuns.{all_tokens, calls_advance, has_tokens_next, has_tokens_none}
+use Rattle.gixobj_c.proofs.CursorRuns.{all_tokens, calls_advance, has_tokens_next, has_tokens_none, no_memory_for_token, status_of_run}
 use Rattle.gixobj_c_codes.specs.Codes.{hash_of_code as hash_of}
 use Rattle.gixobj_c.proofs.laws.commit_tokens.Goals as goal
 
@@ -17,3 +17,11 @@ calls-smaller c = calls_advance (hash_of c.args.hash) c.args.commit.now _ _ _ _ 
 pub calls-preserved : goal.calls-preserved
 calls-preserved c = has_tokens_next (hash_of c.args.hash) c.args.commit.now _ _ _ _ _ _ _ c.calls.invariant c.gixobj_commit_token-status.ensures
     c.if-status-ne-DONE.false c.in-Ok.ensures.items
+
+pub returns-then-status-ne-DONE : goal.returns-then-status-ne-DONE
+returns-then-status-ne-DONE c = status_of_run (hash_of c.args.hash) c.args.commit.now _ _ _ _ _ _ c.calls.invariant c.gixobj_commit_token-status.ensures
+    c.if-status-eq-AT_END.false c.if-status-ne-DONE.true
+
+pub returns-in_default : goal.returns-in_default
+returns-in_default c = no_memory_for_token (hash_of c.args.hash) c.args.commit.now _ _ _ _ _ _ c.calls.invariant c.gixobj_commit_token-status.ensures
+    c.if-status-ne-DONE.false
