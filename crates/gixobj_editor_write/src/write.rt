@@ -34,8 +34,8 @@ use std::mem;
 /// The number of levels below a written directory at which entries in pieces are made one piece, without a copy.
 const SETTLED_LEVELS: u32 = 64;
 
-/// What a write emitted: the changed trees, and the tree of the written directory. [`write_all`] and
-/// [`write_at`] return it.
+/// What a write emitted: the changed trees, and the tree of the written directory. Writes of editors and cursors return
+/// it.
 #[derive(Debug, Drop)]
 pub struct Written {
     /// The id that `out` returned for the tree of the written directory.
@@ -50,7 +50,7 @@ pub struct Written {
     pub saved: usize,
 }
 
-/// The error of [`write_all`] and [`write_at`]. The open directories are unchanged.
+/// The error of writes of editors and cursors. The open directories are unchanged.
 #[derive(Debug, Drop, thiserror::Error)]
 #[error_bound(E: Display)]
 pub enum WriteError<E> {

@@ -3,8 +3,7 @@ use gixobj_hash::hash::ObjectId;
 use gixobj_hash::{Kind, decode};
 use gixobj_store::find;
 
-/// The error of [`existing_tree`](crate::find::existing_tree), and of the lookups of `FindExt` that return a
-/// decoded object.
+/// The error of the lookups of `FindExt` that return a decoded object.
 #[derive(Debug, Drop, thiserror::Error)]
 pub enum Error {
     /// The lookup failed; the payload is its error.
