@@ -151,9 +151,16 @@ static int buffers(void) {
   WANT(gixobj_summary(BYTES("a\nb\n\nc"), out, 64, &len) == GIXOBJ_DONE && len == 3 && !memcmp(out, "a b", 3));
   WANT(gixobj_summary(BYTES(" x"), out, 64, &len) == GIXOBJ_DONE && len == 1 && out[0] == 'x');
   WANT(gixobj_summary(BYTES("\n\ntitle"), out, 64, &len) == GIXOBJ_DONE && len == 0);
-  WANT(gixobj_trailer(BYTES(commit), 0, out, 64, &len, more, 256, &more_len) == GIXOBJ_DONE);
+  gixobj_cursor at = {0, 0};
+  WANT(gixobj_trailer(BYTES(commit), &at, out, 7, &len, more, 256, &more_len) == GIXOBJ_BUFFER_TOO_SHORT);
+  WANT(at.offset == 0 && at.state == 0 && len == 8 && more_len == 3);
+  WANT(gixobj_trailer(BYTES(commit), &at, out, 64, &len, more, 256, &more_len) == GIXOBJ_DONE);
   WANT(len == 8 && !memcmp(out, "Acked-by", 8) && more_len == 3 && !memcmp(more, "B C", 3));
-  WANT(gixobj_trailer(BYTES(commit), 1, out, 64, &len, more, 256, &more_len) == GIXOBJ_NOT_FOUND && len == 8);
+  WANT(gixobj_trailer(BYTES(commit), &at, out, 64, &len, more, 256, &more_len) == GIXOBJ_AT_END && len == 8);
+  at.state = 2;
+  WANT(gixobj_trailer(BYTES(commit), &at, out, 64, &len, more, 256, &more_len) == GIXOBJ_UNKNOWN_CODE);
+  at = (gixobj_cursor){sizeof commit, 1};
+  WANT(gixobj_trailer(BYTES(commit), &at, out, 64, &len, more, 256, &more_len) == GIXOBJ_BAD_OFFSET);
   WANT(gixobj_commit_signature(GIXOBJ_SHA1, BYTES(commit), out, 64, &len, more, 256, &more_len) == GIXOBJ_DONE);
   WANT(len == 4 && !memcmp(out, "a\nb\n", 4) && more_len == sizeof commit - 1 - 12);
   memset(out, 'x', 64);

@@ -155,12 +155,14 @@ uint32_t gixobj_message(const uint8_t *message, size_t message_len, gixobj_messa
  * DONE, OUT_OF_MEMORY, BUFFER_TOO_SHORT. A title of several lines allocates. */
 uint32_t gixobj_summary(const uint8_t *message, size_t message_len, uint8_t *out, size_t out_size, size_t *out_len);
 
-/* Writes the token and the value of the trailer with this index, from 0 on, in a message. Both lengths are written,
- * also if a buffer is too short; then both buffers are unchanged.
- * DONE, NOT_FOUND, OUT_OF_MEMORY (only if a value of several lines comes up to this trailer), BUFFER_TOO_SHORT. Values of
- * several lines allocate. */
-uint32_t gixobj_trailer(const uint8_t *message, size_t message_len, size_t index, uint8_t *token, size_t token_size,
-                        size_t *token_len, uint8_t *value, size_t value_size, size_t *value_len);
+/* Writes the token and the value of the trailer at the cursor in a message (git-interpret-trailers), and moves the
+ * cursor after it. At the start both numbers of the cursor are 0. Then the trailer block is found once, in all of the
+ * message, and each further call reads the lines of its trailer and those that it skips. Both lengths are written, also
+ * if a buffer is too short; then both buffers and the cursor are unchanged.
+ * DONE, AT_END, OUT_OF_MEMORY (only for a value of several lines), BUFFER_TOO_SHORT, BAD_OFFSET, UNKNOWN_CODE (a state
+ * other than 0 and 1). A value of several lines allocates. */
+uint32_t gixobj_trailer(const uint8_t *message, size_t message_len, gixobj_cursor *cursor, uint8_t *token,
+                        size_t token_size, size_t *token_len, uint8_t *value, size_t value_size, size_t *value_len);
 
 /* Finds the signature of a tag, which signs all bytes before it. DONE, NOT_FOUND. Allocates nothing. */
 uint32_t gixobj_tag_signature(const uint8_t *tag, size_t tag_len, gixobj_span *out);

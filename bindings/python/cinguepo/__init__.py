@@ -210,13 +210,18 @@ def summary(data: bytes) -> bytes:
 
 def trailers(data: bytes) -> Iterator[tuple[bytes, bytes]]:
     """The token and the value of each trailer of a message."""
-    index = 0
+    cursor, token_len, value_len = raw.Cursor(), c_size_t(0), c_size_t(0)
+    sizes, call, before = (64, 256), lib.gixobj_trailer, (plain(data), len(data), byref(cursor))
     while True:
-        found = _with_buffers(lambda *out: lib.gixobj_trailer(plain(data), len(data), index, *out), [64, 256])
-        if found is None:
+        token, value = map(create_string_buffer, sizes)
+        arguments = (*before, token, sizes[0], byref(token_len), value, sizes[1], byref(value_len))
+        while not (status := call(*arguments)):
+            yield token[: token_len.value], value[: value_len.value]
+        if status == raw.AT_END:
             return
-        yield found[0], found[1]
-        index += 1
+        if status != raw.BUFFER_TOO_SHORT:
+            raise error_of(status)
+        sizes = max(sizes[0], token_len.value), max(sizes[1], value_len.value)
 
 
 def commit_header(commit: bytes, name: bytes, hash: int = Hash.SHA1) -> Optional[bytes]:

@@ -143,7 +143,7 @@ FUNCTIONS = {
     "gixobj_actor": [*_BYTES, POINTER(Actor)],
     "gixobj_message": [*_BYTES, POINTER(Message)],
     "gixobj_summary": [*_BYTES, *_BUFFER, _LEN],
-    "gixobj_trailer": [*_BYTES, c_size_t, *_BUFFER, _LEN, *_BUFFER, _LEN],
+    "gixobj_trailer": [*_BYTES, POINTER(Cursor), *_BUFFER, _LEN, *_BUFFER, _LEN],
     "gixobj_tag_signature": [*_BYTES, POINTER(Span)],
     "gixobj_commit_signature": [c_uint8, *_BYTES, *_BUFFER, _LEN, *_BUFFER, _LEN],
     "gixobj_edit": [c_uint8, *_BYTES, *_BYTES, *_BYTES, *_BUFFER, _LEN, *_BUFFER, _LEN, POINTER(c_uint64)],

@@ -20,7 +20,7 @@ pub(crate) fn with_buffers<const N: usize>(
                     buffer.resize(buffer.len().max(len), 0);
                 }
             }
-            9 => return Ok(None),
+            1 | 9 => return Ok(None),
             status => return Err(Error::of_status(status)),
         }
     }

@@ -28,7 +28,7 @@ pub use edits::{EditError, Edited, edit};
 #[cfg(feature = "reencode")]
 pub use encodings::reencode;
 pub use error::Error;
-pub use messages::{commit_signature, message, summary, tag_signature, trailer};
+pub use messages::{Trailers, commit_signature, message, summary, tag_signature, trailers};
 pub use objects::{HashKind, Id, Kind, check, id, loose_header, verify};
 pub use tags::{TagToken, TagTokens, tag_tokens};
 pub use trees::{Entries, Entry, all_entries, entries};

@@ -46,28 +46,54 @@ pub fn summary(message: &[u8]) -> Result<Vec<u8>, Error> {
     Ok(out)
 }
 
-/// Returns the token and the value of the trailer with this index in a message, or `None` if there are fewer.
+/// An iterator over the trailers of a message: the token and the value of each. After an error it yields nothing.
+#[derive(Clone)]
+pub struct Trailers<'a> {
+    message: &'a [u8],
+    cursor: raw::Cursor,
+}
+
+/// Returns an iterator over the trailers of a message.
 ///
-/// # Errors
+/// ```
+/// let mut trailers = cinguepo::trailers(b"title\n\nAcked-by: B\n  C\n");
+/// assert_eq!(trailers.next(), Some(Ok([b"Acked-by".to_vec(), b"B C".to_vec()])));
+/// assert_eq!(trailers.next(), None);
+/// ```
 ///
-/// [`Error::OutOfMemory`] only if a value of several lines comes up to this trailer.
-pub fn trailer(message: &[u8], index: usize) -> Result<Option<[Vec<u8>; 2]>, Error> {
-    with_buffers(|[token, value], [token_len, value_len]| {
-        // SAFETY: as in `id`; the buffers are apart.
-        unsafe {
-            raw::gixobj_trailer(
-                message.as_ptr(),
-                message.len(),
-                index,
-                token.as_mut_ptr(),
-                token.len(),
-                token_len,
-                value.as_mut_ptr(),
-                value.len(),
-                value_len,
-            )
+/// The iterator yields [`Error::OutOfMemory`] only at a value of several lines.
+pub fn trailers(message: &[u8]) -> Trailers<'_> {
+    Trailers {
+        message,
+        cursor: raw::Cursor::default(),
+    }
+}
+
+impl Iterator for Trailers<'_> {
+    type Item = Result<[Vec<u8>; 2], Error>;
+
+    fn next(&mut self) -> Option<Self::Item> {
+        let found = with_buffers(|[token, value], [token_len, value_len]| {
+            // SAFETY: as in `id`; the cursor is initialised; the cursor and the buffers are apart.
+            unsafe {
+                raw::gixobj_trailer(
+                    self.message.as_ptr(),
+                    self.message.len(),
+                    &mut self.cursor,
+                    token.as_mut_ptr(),
+                    token.len(),
+                    token_len,
+                    value.as_mut_ptr(),
+                    value.len(),
+                    value_len,
+                )
+            }
+        });
+        if found.is_err() {
+            self.cursor.offset = self.message.len();
         }
-    })
+        found.transpose()
+    }
 }
 
 /// Returns the signature of a tag, and the bytes that it signs.

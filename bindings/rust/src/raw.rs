@@ -148,7 +148,7 @@ unsafe extern "C" {
     pub fn gixobj_trailer(
         message: *const u8,
         len: usize,
-        index: usize,
+        cursor: *mut Cursor,
         token: *mut u8,
         token_size: usize,
         token_len: *mut usize,

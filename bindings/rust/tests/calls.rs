@@ -2,7 +2,7 @@
 use cinguepo::{
     Entry, Error, HashKind, Kind, TagToken, Token, actor, all_entries, check, commit_header,
     commit_signature, entries, id, loose_header, message, summary, tag_signature, tag_tokens,
-    tokens, trailer, unfold, verify,
+    tokens, trailers, unfold, verify,
 };
 
 const SHA1: HashKind = HashKind::Sha1;
@@ -241,11 +241,12 @@ fn messages_split() {
     assert_eq!(summary(b" x").as_deref(), Ok(&b"x"[..]));
     assert_eq!(summary(b"\n\ntitle").as_deref(), Ok(&b""[..]));
     let first = [b"Signed-off-by".to_vec(), b"A <a@b>".to_vec()];
-    assert_eq!(trailer(bytes, 0), Ok(Some(first)));
     let second = [b"Acked-by".to_vec(), b"B C".to_vec()];
-    assert_eq!(trailer(bytes, 1), Ok(Some(second)));
-    assert_eq!(trailer(bytes, 2), Ok(None));
-    assert_eq!(trailer(bytes, usize::MAX), Ok(None));
+    assert_eq!(
+        trailers(bytes).collect::<Vec<_>>(),
+        [Ok(first), Ok(second)]
+    );
+    assert!(trailers(b"").next().is_none());
 }
 
 #[test]
