@@ -156,9 +156,9 @@ uint32_t gixobj_message(const uint8_t *message, size_t message_len, gixobj_messa
 uint32_t gixobj_summary(const uint8_t *message, size_t message_len, uint8_t *out, size_t out_size, size_t *out_len);
 
 /* Writes the token and the value of the trailer at the cursor in a message (git-interpret-trailers), and moves the
- * cursor after it. At the start both numbers of the cursor are 0. Then the trailer block is found once, in all of the
- * message, and each further call reads the lines of its trailer and those that it skips. Both lengths are written, also
- * if a buffer is too short; then both buffers and the cursor are unchanged.
+ * cursor after it. At the start both numbers of the cursor are 0: the calls yield all trailers, then AT_END. The first
+ * call finds the trailer block in the message; each further one reads the lines of its trailer, and those that it skips.
+ * Both lengths are written, also if a buffer is too short; then both buffers and the cursor are unchanged.
  * DONE, AT_END, OUT_OF_MEMORY (only for a value of several lines), BUFFER_TOO_SHORT, BAD_OFFSET, UNKNOWN_CODE (a state
  * other than 0 and 1). A value of several lines allocates. */
 uint32_t gixobj_trailer(const uint8_t *message, size_t message_len, gixobj_cursor *cursor, uint8_t *token,

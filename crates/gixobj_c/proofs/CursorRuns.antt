@@ -45,7 +45,7 @@ yields_broken_of_begins Has before following input rest [] (state, same) some no
 yields_broken_of_begins Has before following input rest (first ∷ pieces) (next, after, is, more) some none =
     yields_piece before next input after first pieces broken is (yields_broken_of_begins Has next following after rest pieces more some none)
 
-are_of_snoc : {P T : Type 0} (Is : P → T → Type 0) (pieces : List P) (items : List T) (piece : P) (item : T) → AreOf Is pieces items → Is piece item
+pub are_of_snoc : {P T : Type 0} (Is : P → T → Type 0) (pieces : List P) (items : List T) (piece : P) (item : T) → AreOf Is pieces items → Is piece item
     → AreOf Is (pieces ++ piece ∷ []) (items ++ item ∷ [])
 are_of_snoc Is [] [] piece item are is = (is, tt)
 are_of_snoc Is [] (first ∷ items) piece item are is = absurd are
@@ -72,7 +72,7 @@ HasTokens None commit cursor tokens = Unit {0}
 pub has_tokens_none : (kind : Option Kind) (commit : List ℕ) (tokens : List CommitToken) → tokens ≡ []
     → HasTokens kind commit (record { offset = 0; state = 0 }) tokens
 has_tokens_none None commit tokens none = tt
-has_tokens_none (Some kind) commit tokens none = ([], line_state.Tree, refl, omega arith, (refl, refl), subst (λ it. AreOf (IsTokenIn commit) [] it) (sym none) tt)
+has_tokens_none (Some kind) commit tokens none = ([], line_state.Tree, refl, omega arith, (refl, refl), subst (AreOf (IsTokenIn commit) []) (sym none) tt)
 
 next_token : (kind : Kind) (commit : List ℕ) (state : State) (old new : Cursor) (tokens : List CommitToken) (token_old token : CommitToken)
     (lines : List LineView)
@@ -137,31 +137,32 @@ rest_is_some : (input : List ℕ) (offset : ℕ) → offset < length input → 0
 rest_is_some input offset less = omega (arith, less, length-drop offset input)
 
 -- there is a first line: one that the calls found, or one that needs an allocation, which the first line doesn't
-first_line : (kind : Kind) (commit here : List ℕ) (state : State) (lines : List LineView) → BeginsWithPieces (BeginsWithLine kind) line_state.Tree commit lines state here
+first_line : (kind : Kind) (commit here : List ℕ) (state : State) (lines : List LineView)
+    → BeginsWithPieces (BeginsWithLine kind) line_state.Tree commit lines state here
     → NeedsAllocation state here → (after : State) × (rest : List ℕ) × BeginsWithSomeLine kind line_state.Tree commit after rest
 first_line kind commit here line_state.Tree [] begins needs = absurd needs.0
 first_line kind commit here state [] begins needs = absurd (subst (λ it. MayFold it here) (sym begins.0) needs.0)
 first_line kind commit here state (line ∷ lines) (next, after, is, more) needs = (next, after, (line, is))
 
-run_status_of : (kind : Kind) (commit : List ℕ) (before : Option State) (state : State) (old new : Cursor) (lines : List LineView) (token_old token : CommitToken)
+run_status_of : (kind : Kind) (commit : List ℕ) (before : Option State) (state : State) (old new : Cursor) (lines : List LineView) (a b : CommitToken)
     (status : ℕ)
     → before ≡ Some state → old.offset ≤ length commit → BeginsWithPieces (BeginsWithLine kind) line_state.Tree commit lines state (drop old.offset commit)
-    → IsCommitTokenCall (Some kind) commit before old.offset old new token_old token status → (status ≡ 1 → ⊥) → (status ≡ 0 → ⊥)
+    → IsCommitTokenCall (Some kind) commit before old.offset old new a b status → (status ≡ 1 → ⊥) → (status ≡ 0 → ⊥)
     → IsCommitRunStatus (Some kind) commit status
-run_status_of kind commit None state old new lines token_old token status known within begins call some fails = absurd (cc known)
-run_status_of kind commit (Some before) state old new lines token_old token status known within begins (inl (zero, _)) some fails = absurd (fails zero)
-run_status_of kind commit (Some before) state old new lines token_old token status known within begins (inr (inl (one, _), _, _)) some fails = absurd (some one)
-run_status_of kind commit (Some before) state old new lines token_old token status known within begins (inr (inr (inl (two, less, none)), _, _)) some fails =
+run_status_of kind commit None state old new lines a b status known within begins call some bad = absurd (cc known)
+run_status_of kind commit (Some before) state old new lines a b status known within begins (inl (zero, _)) some bad = absurd (bad zero)
+run_status_of kind commit (Some before) state old new lines a b status known within begins (inr (inl (one, _), _, _)) some bad = absurd (some one)
+run_status_of kind commit (Some before) state old new lines a b status known within begins (inr (inr (inl (two, less, none)), _, _)) some bad =
     let yields = yields_broken_of_begins (BeginsWithLine kind) line_state.Tree state commit (drop old.offset commit) lines begins
     (rest_is_some commit old.offset less) (subst (λ it. HasNoPiece (BeginsWithLine kind) it (drop old.offset commit)) (cc known) none) in
     inl (two, (lines, yields))
-run_status_of kind commit (Some before) state old new lines token_old token status known within begins (inr (inr (inr (inl (three, less, needs))), _, _)) some fails =
+run_status_of kind commit (Some before) state old new lines a b status known within begins (inr (inr (inr (inl (three, less, needs))), _, _)) some bad =
     inr (
       three,
       first_line kind commit (drop old.offset commit) state lines begins
           (subst (λ it. NeedsAllocation it (drop old.offset commit)) (cc known) needs),
     )
-run_status_of kind commit (Some before) state old new lines token_old token status known within begins (inr (inr (inr (inr (six, far))), _, _)) some fails =
+run_status_of kind commit (Some before) state old new lines a b status known within begins (inr (inr (inr (inr (six, far))), _, _)) some bad =
     absurd (omega (arith, within, far))
 
 pub status_of_run : (kind : Option Kind) (commit : List ℕ) (old new : Cursor) (tokens : List CommitToken) (token_old token : CommitToken) (status : ℕ)
@@ -207,7 +208,7 @@ HasTagTokens None tag cursor tokens = Unit {0}
 pub has_tag_tokens_none : (kind : Option Kind) (tag : List ℕ) (tokens : List TagToken) → tokens ≡ []
     → HasTagTokens kind tag (record { offset = 0; state = 0 }) tokens
 has_tag_tokens_none None tag tokens none = tt
-has_tag_tokens_none (Some kind) tag tokens none = ([], tag_state.Target, refl, omega arith, (refl, refl), subst (λ it. AreOf (IsTagTokenIn tag) [] it) (sym none) tt)
+has_tag_tokens_none (Some kind) tag tokens none = ([], tag_state.Target, refl, omega arith, (refl, refl), subst (AreOf (IsTagTokenIn tag) []) (sym none) tt)
 
 next_tag_token : (kind : Kind) (tag : List ℕ) (state : TagState) (old new : Cursor) (tokens : List TagToken) (token : TagToken) (found : List TagTokenView)
     → BeginsWithPieces (BeginsWithTagToken kind) tag_state.Target tag found state (drop old.offset tag) → AreOf (IsTagTokenIn tag) found tokens
@@ -263,18 +264,18 @@ all_tag_tokens (Some kind) tag old new tokens token_old token status (found, sta
     }
 
 tag_run_status_of : (kind : Kind) (tag : List ℕ) (before : Option TagState) (state : TagState) (old new : Cursor) (found : List TagTokenView)
-    (token_old token : TagToken) (status : ℕ)
+    (a b : TagToken) (status : ℕ)
     → before ≡ Some state → old.offset ≤ length tag → BeginsWithPieces (BeginsWithTagToken kind) tag_state.Target tag found state (drop old.offset tag)
-    → IsTagTokenCall (Some kind) tag before old.offset old new token_old token status → (status ≡ 1 → ⊥) → (status ≡ 0 → ⊥)
+    → IsTagTokenCall (Some kind) tag before old.offset old new a b status → (status ≡ 1 → ⊥) → (status ≡ 0 → ⊥)
     → IsTagRunStatus (Some kind) tag status
-tag_run_status_of kind tag None state old new found token_old token status known within begins call some fails = absurd (cc known)
-tag_run_status_of kind tag (Some before) state old new found token_old token status known within begins (inl (zero, _)) some fails = absurd (fails zero)
-tag_run_status_of kind tag (Some before) state old new found token_old token status known within begins (inr (inl (one, _), _, _)) some fails = absurd (some one)
-tag_run_status_of kind tag (Some before) state old new found token_old token status known within begins (inr (inr (inl (two, less, none)), _, _)) some fails =
+tag_run_status_of kind tag None state old new found a b status known within begins call some bad = absurd (cc known)
+tag_run_status_of kind tag (Some before) state old new found a b status known within begins (inl (zero, _)) some bad = absurd (bad zero)
+tag_run_status_of kind tag (Some before) state old new found a b status known within begins (inr (inl (one, _), _, _)) some bad = absurd (some one)
+tag_run_status_of kind tag (Some before) state old new found a b status known within begins (inr (inr (inl (two, less, none)), _, _)) some bad =
     let yields = yields_broken_of_begins (BeginsWithTagToken kind) tag_state.Target state tag (drop old.offset tag) found begins
     (rest_is_some tag old.offset less) (subst (λ it. HasNoPiece (BeginsWithTagToken kind) it (drop old.offset tag)) (cc known) none) in
     inl (two, (found, yields))
-tag_run_status_of kind tag (Some before) state old new found token_old token status known within begins (inr (inr (inr (six, far)), _, _)) some fails =
+tag_run_status_of kind tag (Some before) state old new found a b status known within begins (inr (inr (inr (six, far)), _, _)) some bad =
     absurd (omega (arith, within, far))
 
 pub status_of_tag_run : (kind : Option Kind) (tag : List ℕ) (old new : Cursor) (tokens : List TagToken) (token_old token : TagToken) (status : ℕ)

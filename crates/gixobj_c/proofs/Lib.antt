@@ -9,3 +9,4 @@ pub mod SignatureCalls
 pub mod TagParts
 pub mod Titles
 pub mod TrailerCalls
+pub mod TrailerRuns

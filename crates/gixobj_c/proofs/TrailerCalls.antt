@@ -1,6 +1,6 @@
 -- The lines of a trailer block are at the end of the message, and so is what follows a trailer.
-use Rattle.std.proofs.Common.{◌≡◌, ◌++◌, ℕ, List, [], ap, append_assoc, drop, inl, inr, subst, sym, take, ◌∙◌}
-use Rattle.std.proofs.lemmas.List.{append-nil, take-append-drop}
+use Rattle.std.proofs.Common.{◌≡◌, ◌≤◌, ◌-◌, ◌++◌, ℕ, List, [], ap, append_assoc, arith, drop, inl, inr, length, length-append, subst, sym, take, ◌∙◌}
+use Rattle.std.proofs.lemmas.List.{append-nil, length-drop, take-append-drop}
 use Rattle.std.proofs.lemmas.List.Folds.{concat-append}
 use Rattle.std.specs.List.{concat}
 use Rattle.std.specs.Prelude.{Option, Some, None}
@@ -40,9 +40,9 @@ unfolding EndsWith
 ends_with_block_of message title None block split none = (message, sym (append-nil message) ∙ ap (λ (it : List ℕ). message ++ it) (sym none))
 ends_with_block_of message title (Some body) block (split, some) (start, is, same) =
     let here = split.here in
-    let whole : body ≡ take start body ++ block = sym (take-append-drop start body) ∙ ap (λ (it : List ℕ). take start body ++ it) (sym same) in (
+    let body_is : body ≡ take start body ++ block = sym (take-append-drop start body) ∙ ap (λ (it : List ℕ). take start body ++ it) (sym same) in (
       title ++ here.first ++ here.second ++ take start body,
-      here.joined ∙ ap (λ (it : List ℕ). title ++ here.first ++ here.second ++ it) whole
+      here.joined ∙ ap (λ (it : List ℕ). title ++ here.first ++ here.second ++ it) body_is
           ∙ sym (append_assoc (title ++ here.first ++ here.second) (take start body) block),
     )
 
@@ -53,6 +53,17 @@ ends_with_lines : (message : List ℕ) (offset state : ℕ) (lines : List ℕ) �
 unfolding EndsWith
 ends_with_lines message offset state lines (within, inl (zero, has)) = ends_with_block (drop offset message) lines has
 ends_with_lines message offset state lines (within, inr (one, same)) = ([], sym same)
+
+end_len : (bytes rest : List ℕ) → EndsWith bytes rest → length rest ≤ length bytes
+unfolding EndsWith
+end_len bytes rest (prefix, joined) =
+    let all : length bytes ≡ length (prefix ++ rest) = ap length joined in
+    omega (arith, all, length-append prefix rest)
+
+pub lines_len : (message : List ℕ) (offset state : ℕ) (lines : List ℕ) → HasLinesAt message offset state lines → length lines ≤ length message - offset
+lines_len message offset state lines has =
+    let within = end_len (drop offset message) lines (ends_with_lines message offset state lines has) in
+    omega (arith, within, length-drop offset message)
 
 rest_of_end : (message : List ℕ) (offset : ℕ) (rest : List ℕ) → EndsWith (drop offset message) rest → HasPieceBefore message rest 0
 unfolding EndsWith

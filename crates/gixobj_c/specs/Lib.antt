@@ -9,5 +9,6 @@ pub mod Runs
 pub mod Signatures
 pub mod Spans
 pub mod Tags
+pub mod TrailerRuns
 pub mod Trailers
 pub mod Trees

@@ -4,6 +4,8 @@ ghost use Rattle.std.specs.Prelude.{MatchResult};
 ghost use Rattle.gixobj_c.specs.Runs.{AreCommitTokensOf, AreTagTokensOf, IsCommitRunStatus, IsTagRunStatus};
 ghost use Rattle.gixobj_c_codes.specs.Codes.{hash_of_code as hash_of};
 
+pub mod trailers;
+
 use crate::commits::{CommitToken, Cursor, gixobj_commit_token};
 use crate::spans::empty_span;
 use crate::tags::{TagToken, gixobj_tag_token};

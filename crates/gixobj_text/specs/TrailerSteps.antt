@@ -51,6 +51,7 @@ NextTrailer before None after = (remaining_trailers before ≡ []) × (remaining
 -- the first trailer of the lines; the lines after it have the others, and are the last lines
 pub record IsFirstTrailer (lines : List ℕ) (trailer : TrailerView) (rest : List ℕ) : Type 0 where
   pub trailers : trailers_of_bytes lines ≡ trailer ∷ trailers_of_bytes rest
+  pub shorter : length rest < length lines
   pub last_lines : HasLastLines lines rest
 
 -- at most one trailer for each remaining byte
