@@ -179,12 +179,12 @@ static int edits(void) {
                                      0x23, 0x1f, 0xcc, 0x07, 0x1a, 0x62, 0x8b, 0x40, 0x62, 0x69};
   static const char add[] = "upsert blob ce013625030ba8dba906f756967f9e9ca394464a a/b\n";
   static const char move[] = "upsert exe ce013625030ba8dba906f756967f9e9ca394464a a/c\n\nleaf a/b\n";
-  uint8_t out[256], more[256], id[20];
+  uint8_t out[256], more[256], id[40];
   size_t len = 0, more_len = 0, id_len = 0;
   uint64_t number = 9;
   memset(out, 'x', 256);
 #define EDIT(trees, len, root, script, out, size, out_len) \
-  gixobj_edit(GIXOBJ_SHA1, trees, len, root, 20, BYTES(script), out, size, out_len, id, 20, &id_len, &number)
+  gixobj_edit(GIXOBJ_SHA1, trees, len, root, 20, BYTES(script), out, size, out_len, id, sizeof id, &id_len, &number)
   WANT(EDIT(none, 0, none, add, out, 3, &len) == GIXOBJ_BUFFER_TOO_SHORT && len == 73 && out[0] == 'x');
   WANT(EDIT(none, 0, none, add, out, 256, &len) == GIXOBJ_DONE && len == 73 && number == 9);
   WANT(id_len == 20 && !memcmp(id, first, 20) && !memcmp(out, "tree 29\0" "100644 b", 16));
@@ -192,10 +192,57 @@ static int edits(void) {
   WANT(EDIT(none, 0, first, move, more, 256, &more_len) == GIXOBJ_NOT_FOUND && !memcmp(id, first, 20) && number == 0);
   WANT(EDIT(out + 37, len - 37, first, move, more, 256, &more_len) == GIXOBJ_NOT_FOUND && number == 1);
   WANT(EDIT(out, len - 1, first, move, more, 256, &more_len) == GIXOBJ_MALFORMED && number == 0);
+  /* of several faults: the frames, the root, the first bad line, the first command that fails */
+  WANT(EDIT(out, len - 1, second, "x\n", more, 256, &more_len) == GIXOBJ_MALFORMED && number == 0);
+  WANT(EDIT(out, len, second, "\nx", more, 256, &more_len) == GIXOBJ_NOT_FOUND && number == 0);
+  WANT(!memcmp(id, second, 20));
+  WANT(EDIT(out, len, first, "leaf a\nx\ny", more, 256, &more_len) == GIXOBJ_BAD_LINE && number == 2);
+  WANT(EDIT(out + 37, len - 37, first, "remove /\nleaf a/b", more, 256, &more_len) == GIXOBJ_INVALID_NAME);
   WANT(EDIT(out, len, first, "\nupsert x", more, 256, &more_len) == GIXOBJ_BAD_LINE && number == 2);
   WANT(EDIT(out, len, first, "remove a//b", more, 256, &more_len) == GIXOBJ_INVALID_NAME && number == 1);
   WANT(EDIT(out, len, first, "leaf a", more, 256, &more_len) == GIXOBJ_IS_DIRECTORY && number == 1);
   WANT(gixobj_edit(3, none, 0, none, 20, none, 0, out, 0, &len, id, 0, &id_len, &number) == GIXOBJ_UNKNOWN_CODE);
+  /* what has length 0 may be NULL */
+  WANT(gixobj_edit(GIXOBJ_SHA1, NULL, 0, none, 20, NULL, 0, out, 256, &len, id, 20, &id_len, &number) == GIXOBJ_DONE);
+  WANT(len == 7 && !memcmp(out, "tree 0", 7) && id_len == 20 && id[0] == 0x4b);
+  WANT(gixobj_edit(GIXOBJ_SHA1, NULL, 0, NULL, 0, NULL, 0, NULL, 0, &len, NULL, 0, &id_len, &number) ==
+       GIXOBJ_MALFORMED);
+  WANT(gixobj_edit(GIXOBJ_SHA1, NULL, 0, none, 20, NULL, 0, NULL, 0, &len, NULL, 0, &id_len, &number) ==
+       GIXOBJ_BUFFER_TOO_SHORT);
+  return 0;
+}
+
+#define RUN(trees, root, script, size) \
+  gixobj_edit(GIXOBJ_SHA1, BYTES(trees), root, 20, BYTES(script), out, 256, &len, id, size, &id_len, &number)
+
+/* Git writes no mode 140755: such a tree isn't written with another mode, 040755. */
+static int lossy_trees(void) {
+  static const char lossy[] = "tree 29\0" "140755 a\0ABCDEFGHIJKLMNOPQRST";
+  static const char both[] = "tree 29\0" "140755 a\0ABCDEFGHIJKLMNOPQRST" "tree 29\0" "100644 a\0ABCDEFGHIJKLMNOPQRST";
+  uint8_t out[256], root[20], other[20], id[20];
+  size_t len = 0, id_len = 0;
+  uint64_t number = 9;
+  WANT(gixobj_id(GIXOBJ_SHA1, GIXOBJ_TREE, (const uint8_t *)both + 8, 29, root, 20) == GIXOBJ_DONE);
+  WANT(gixobj_id(GIXOBJ_SHA1, GIXOBJ_TREE, (const uint8_t *)both + 45, 29, other, 20) == GIXOBJ_DONE);
+  WANT(RUN(lossy, root, "", 20) == GIXOBJ_LOSSY_TREE && number == 0 && id_len == 20 && !memcmp(id, root, 20));
+  WANT(RUN(lossy, root, "x", 19) == GIXOBJ_BUFFER_TOO_SHORT && number == 0 && id_len == 20);
+  WANT(RUN(both, other, "", 20) == GIXOBJ_DONE && len == 37 && !memcmp(id, other, 20));
+  WANT(gixobj_check(GIXOBJ_SHA1, GIXOBJ_TREE, out + 8, 29) == GIXOBJ_DONE);
+  return 0;
+}
+
+/* One answer has the ids of all trees that commands lack, an id for each command. */
+static int missing_trees(void) {
+  static const char tree[] = "tree 56\0" "40000 w\0ABCDEFGHIJKLMNOPQRST" "40000 x\0abcdefghijklmnopqrst";
+  static const char script[] = "remove w/a\nremove v/a\nremove x/a\nleaf x/b\n";
+  uint8_t out[256], root[20], id[64];
+  size_t len = 9, id_len = 0;
+  uint64_t number = 9;
+  WANT(gixobj_id(GIXOBJ_SHA1, GIXOBJ_TREE, (const uint8_t *)tree + 8, 56, root, 20) == GIXOBJ_DONE);
+  WANT(RUN(tree, root, script, 64) == GIXOBJ_NOT_FOUND && number == 1 && id_len == 60 && len == 9);
+  WANT(!memcmp(id, "ABCDEFGHIJKLMNOPQRSTabcdefghijklmnopqrstabcdefghijklmnopqrst", 60));
+  memset(id, 'x', 64);
+  WANT(RUN(tree, root, script, 59) == GIXOBJ_BUFFER_TOO_SHORT && number == 1 && id_len == 60 && id[0] == 'x');
   return 0;
 }
 
@@ -250,7 +297,7 @@ static int actors(void) {
 
 int main(void) {
   if (actors() || ids() || headers() || entries() || modes() || tokens() || tag_tokens() || named_headers() ||
-      buffers() || edits() || writes() || signatures())
+      buffers() || edits() || lossy_trees() || missing_trees() || writes() || signatures())
     return 1;
   puts("ok");
   return 0;

@@ -14,7 +14,8 @@ enum gixobj_edit_status {
   GIXOBJ_BAD_LINE = 12,       /* a line of the script is neither empty nor a command */
   GIXOBJ_INVALID_NAME = 14,   /* a name of a path is empty */
   GIXOBJ_IS_DIRECTORY = 15,   /* the path of a `leaf` is that of a directory */
-  GIXOBJ_MALFORMED_TREE = 16  /* a tree does not decode, or its entries are not in git's order with valid names */
+  GIXOBJ_MALFORMED_TREE = 16, /* a tree does not decode, or its entries are not in git's order with valid names */
+  GIXOBJ_LOSSY_TREE = 17      /* the encoding of a tree does not decode to it, as with a mode of 140755 */
 };
 
 /* Runs a script on a root, and then writes the root: the trees that change, as git update-index and git write-tree.
@@ -32,15 +33,24 @@ enum gixobj_edit_status {
  *
  * DONE: out has the frames of the new trees, in the order in which the writes emit them: those of the last write come
  * last, and its root ends them. A tree that several writes emit has a frame for each: the root, if the script ends with
- * `write`. id has the last root's id. *number is unchanged.
- * BUFFER_TOO_SHORT: *out_len and *id_len are the lengths that are needed. Of a missing tree *out_len is unchanged.
- * NOT_FOUND: a tree is missing. id has its id: add its frame to the trees, and call again.
+ * `write`. id has the last root's id. *number is unchanged. Each new tree decodes to the entries that were written, so
+ * gixobj_check accepts it.
+ * BUFFER_TOO_SHORT: *out_len and *id_len are the lengths that are needed. Of missing or lossy trees *out_len is
+ * unchanged.
+ * NOT_FOUND: trees are missing. id has their ids, one after another, and *id_len is their length in bytes. A command
+ * that fails changes no file, and those after it are run: each names the first tree that it lacks. So an id may come
+ * more than once, or be that of a tree that a later line makes needless. Add their frames to the trees, and call again.
+ * There are at most as many such answers as the deepest path has names. id has room enough with an id for each line.
+ * LOSSY_TREE: id has the id of a tree that is looked up. Writing would change it: a mode of 140755 is written as 040755.
+ * If no such tree is looked up, it is the id of a new tree, and *number is that of the last write.
  * BAD_LINE: *number is that of the line, from 1.
- * INVALID_NAME, IS_DIRECTORY, MALFORMED_TREE, NOT_ENCODABLE (a name with a zero byte), NOT_FOUND: *number is that of the
- * first command that fails, from 1, without empty lines. That of the last write is one more than the number of commands,
- * and that of the root 0.
+ * INVALID_NAME, IS_DIRECTORY, MALFORMED_TREE, LOSSY_TREE, NOT_ENCODABLE (a name with a zero byte), NOT_FOUND: *number
+ * is that of the first command that fails, from 1, without empty lines. That of the last write is one more than the
+ * number of commands, and that of the root 0.
  * MALFORMED: the trees are no frames, or the root has not the length of an id; *number is 0.
- * OUT_OF_MEMORY. UNKNOWN_CODE: all is unchanged. Allocates. */
+ * OUT_OF_MEMORY. UNKNOWN_CODE: all is unchanged. Allocates.
+ * Of several faults the first counts: the trees are no frames, there is no root, a line is bad, a command fails.
+ * Of trees, root, script, out and id, what has length 0 may be NULL. */
 uint32_t gixobj_edit(uint8_t hash, const uint8_t *trees, size_t trees_len, const uint8_t *root, size_t root_len,
                      const uint8_t *script, size_t script_len, uint8_t *out, size_t out_size, size_t *out_len,
                      uint8_t *id, size_t id_size, size_t *id_len, uint64_t *number);

@@ -7,18 +7,19 @@ library each call and `LIBRARIES` raise it.
 
 Calls take numbers of hash functions and kinds. UnknownCodeError is raised for an unknown one.
 """
-from ctypes import Array, byref, c_size_t, c_uint64, create_string_buffer
+import re
+from ctypes import Array, byref, c_size_t, c_uint64, create_string_buffer, string_at
 from enum import IntEnum
 from typing import Callable, Iterable, Iterator, NamedTuple, Optional
 
 from . import _library as raw
-from ._library import Error, InvalidSizeError, MalformedError, MissingLibraryError, MissingTreeError
+from ._library import Error, InvalidSizeError, LossyTreeError, MalformedError, MissingLibraryError, MissingTreeError
 from ._library import NotEncodableError, ScriptError, UnknownCodeError, UnknownKindError
 from ._library import code, digest, error_of, lib, load, plain
 
 __all__ = [
-    "LIBRARIES", "Actor", "Entry", "Error", "Hash", "InvalidSizeError", "Kind", "MalformedError", "MissingLibraryError",
-    "MissingTreeError", "NotEncodableError", "ScriptError", "UnknownCodeError", "UnknownKindError", "actor", "check",
+    "LIBRARIES", "Actor", "Entry", "Error", "Hash", "InvalidSizeError", "Kind", "LossyTreeError", "MalformedError",
+    "MissingLibraryError", "MissingTreeError", "NotEncodableError", "ScriptError", "UnknownCodeError", "UnknownKindError", "actor", "check",
     "commit_header", "commit_signature", "edit", "entries", "loose_header", "message", "object_id", "reencode",
     "summary", "tag_signature", "tag_tokens", "tokens", "trailers", "unfold", "verify",
 ]
@@ -255,12 +256,29 @@ def frames(trees: Iterable[bytes]) -> bytes:
     return b"".join(b"tree %d\0" % len(tree) + tree for tree in trees)
 
 
+_FRAME = re.compile(rb"tree (0|[1-9][0-9]*)\0")
+
+
 def trees_of(data: bytes) -> Iterator[bytes]:
     """The trees in frames."""
-    while data:
-        _, size, length = loose_header(data)
-        yield data[length : length + size]
-        data = data[length + size :]
+    at = 0
+    while at < len(data):
+        header = _FRAME.match(data, at)
+        if header is None or header.end() + int(header[1]) > len(data):
+            raise error_of(raw.MALFORMED)
+        at = header.end() + int(header[1])
+        yield data[header.end() : at]
+
+
+def _found(missing: list[str], find: Optional[Callable[[str], bytes]], hash: int) -> bytes:
+    """The frames of missing trees. Raises MissingTreeError for those that are not found."""
+    if find is None:
+        raise MissingTreeError(*missing)
+    found = {id: find(id) for id in dict.fromkeys(missing)}
+    wrong = [id for id, tree in found.items() if object_id(Kind.TREE, tree, hash) != id]
+    if wrong:
+        raise MissingTreeError(*wrong)
+    return frames(found.values())
 
 
 def edit(
@@ -273,28 +291,26 @@ def edit(
     """Runs a script on the root with this id in hex, then writes the root. Returns its id, and the new trees, in the
     order in which the writes emit them, the root last. Needs gixobj_c_edit.
 
-    A tree that `trees` lacks is looked up by `find`; without it, MissingTreeError is raised. The lines of the script are
-    `upsert KIND ID PATH`, `remove PATH`, `leaf PATH`, `write`, `root` and `at PREFIX LINE`, as `gixobj help` describes
-    them."""
-    hash, given, old, size = code(hash), frames(trees), digest(root), 4096
-    out_len, id_len, number, id = c_size_t(0), c_size_t(0), c_uint64(0), create_string_buffer(32)
+    Trees that `trees` lacks are looked up by `find`, each once; without it, MissingTreeError is raised. The lines of the
+    script are `upsert KIND ID PATH`, `remove PATH`, `leaf PATH`, `write`, `root` and `at PREFIX LINE`, as `gixobj help`
+    describes them."""
+    hash, given, old, count = code(hash), frames(trees), digest(root), plain(script).count(b"\n")
+    out_len, id_len, number, id = c_size_t(0), c_size_t(0), c_uint64(0), create_string_buffer(32 * (count + 2))
+    size = 4096
     while True:
-        out = create_string_buffer(size)
-        arguments = [given, len(given), old, len(old), plain(script), len(script)]
+        out = create_string_buffer(max(size, len(given) + len(script)))
+        arguments = [given, len(given), old, len(old), script, len(script)]
         buffers = [out, len(out), byref(out_len), id, len(id), byref(id_len), byref(number)]
         status = lib.gixobj_edit(hash, *arguments, *buffers)
         if status == raw.DONE:
-            return id.raw[: id_len.value].hex(), list(trees_of(out.raw[: out_len.value]))
+            return string_at(id, id_len.value).hex(), list(trees_of(string_at(out, out_len.value)))
         if status == raw.BUFFER_TOO_SHORT:
             size = out_len.value
         elif status == raw.NOT_FOUND:
-            missing = id.raw[: id_len.value].hex()
-            if find is None:
-                raise MissingTreeError(missing)
-            found = find(missing)
-            if object_id(Kind.TREE, found, hash) != missing:
-                raise MissingTreeError(missing)
-            given += frames([found])
+            ids, step = string_at(id, id_len.value), len(old)
+            given += _found([ids[at : at + step].hex() for at in range(0, len(ids), step)], find, hash)
+        elif status == raw.LOSSY_TREE:
+            raise LossyTreeError(string_at(id, id_len.value).hex())
         elif status in raw.SCRIPT_ERRORS:
             raise ScriptError(raw.SCRIPT_ERRORS[status], number.value)
         else:

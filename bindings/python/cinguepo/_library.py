@@ -8,7 +8,7 @@ from typing import Callable
 
 DONE, AT_END, MALFORMED, OUT_OF_MEMORY, UNKNOWN_CODE, BUFFER_TOO_SHORT, BAD_OFFSET = range(7)
 UNKNOWN_KIND, INVALID_SIZE, NOT_FOUND, NOT_ENCODABLE, MISMATCH = range(7, 12)
-BAD_LINE, INVALID_NAME, IS_DIRECTORY, MALFORMED_TREE = 12, 14, 15, 16
+BAD_LINE, INVALID_NAME, IS_DIRECTORY, MALFORMED_TREE, LOSSY_TREE = 12, 14, 15, 16, 17
 
 
 class Span(Structure):
@@ -89,10 +89,19 @@ class MissingLibraryError(Error, NotImplementedError, OSError):
 
 
 class MissingTreeError(Error, LookupError):
-    """The tree with this id, in hex, is missing."""
+    """The trees with these ids, in hex, are missing. `id` is the first."""
+
+    def __init__(self, *ids: str):
+        self.ids = tuple(dict.fromkeys(ids))
+        super().__init__(f"a missing tree: {', '.join(self.ids)}")
+        self.id = self.ids[0]
+
+
+class LossyTreeError(NotEncodableError):
+    """The encoding of the tree with this id, in hex, does not decode to it, as with a mode of 140755."""
 
     def __init__(self, id: str):
-        super().__init__(f"a missing tree: {id}")
+        super().__init__(f"a tree with a mode that can't be encoded: {id}")
         self.id = id
 
 

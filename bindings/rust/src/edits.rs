@@ -1,5 +1,6 @@
 //! Edits of trees.
-use crate::{HashKind, loose_header, raw};
+use crate::{HashKind, Kind, id, loose_header, raw};
+use std::collections::HashSet;
 use std::fmt;
 
 /// The result of [`edit`].
@@ -14,8 +15,8 @@ pub struct Edited {
 /// Why [`edit`] fails. Numbers of commands begin with 1, and count no empty lines.
 #[derive(Clone, Debug, PartialEq, Eq)]
 pub enum EditError {
-    /// The tree with this id is missing.
-    Missing(Vec<u8>),
+    /// The trees with these ids are missing, each named once.
+    Missing(Vec<Vec<u8>>),
     /// The line with this number, from 1, is neither empty nor a command.
     BadLine(u64),
     /// A path of the command with this number has an empty name.
@@ -26,6 +27,8 @@ pub enum EditError {
     MalformedTree(u64),
     /// A name has a zero byte.
     NotEncodable,
+    /// The encoding of the tree with this id doesn't decode to it, as with a mode of 140755.
+    LossyTree(Vec<u8>),
     /// The root has not the length of an id.
     Malformed,
     /// An allocation failed.
@@ -35,14 +38,21 @@ pub enum EditError {
 impl fmt::Display for EditError {
     fn fmt(&self, f: &mut fmt::Formatter<'_>) -> fmt::Result {
         match self {
-            EditError::Missing(id) => {
-                f.write_str("a missing tree: ")?;
-                id.iter().try_for_each(|byte| write!(f, "{byte:02x}"))
+            EditError::Missing(ids) => {
+                f.write_str("a missing tree:")?;
+                ids.iter().try_for_each(|id| {
+                    f.write_str(" ")?;
+                    id.iter().try_for_each(|byte| write!(f, "{byte:02x}"))
+                })
             }
             EditError::BadLine(number) => write!(f, "line {number} is no command"),
             EditError::InvalidName(number) => write!(f, "an empty name in command {number}"),
             EditError::IsDirectory(number) => write!(f, "a directory in command {number}"),
             EditError::MalformedTree(number) => write!(f, "a malformed tree in command {number}"),
+            EditError::LossyTree(id) => {
+                f.write_str("a tree with a mode that can't be encoded: ")?;
+                id.iter().try_for_each(|byte| write!(f, "{byte:02x}"))
+            }
             EditError::NotEncodable => f.write_str("a name with a zero byte"),
             EditError::Malformed => f.write_str("a malformed id"),
             EditError::OutOfMemory => f.write_str("out of memory"),
@@ -55,26 +65,74 @@ impl std::error::Error for EditError {}
 /// Runs a script on a root, then writes the root, and returns the new trees, as `git update-index` and
 /// `git write-tree`.
 ///
-/// `trees` has the root and the trees on the paths that are edited. The id of the empty tree is that of a root without
+/// `trees` has the root and the trees on the paths that are edited; [`edit_with`] looks them up. The id of the empty tree is that of a root without
 /// entries. The lines of the script are `upsert KIND ID PATH`, `remove PATH`, `leaf PATH`, `write`, `root` and
 /// `at PREFIX LINE`, as `gixobj help` describes them.
 ///
 /// # Errors
 ///
-/// [`EditError::Missing`] with the id of a tree that `trees` lacks. The others say what is wrong with the script, the
-/// trees or the root.
+/// [`EditError::Missing`] with the ids of trees that `trees` lacks: each command names the first that it lacks.
+/// The others say what is wrong with the trees, the root or the script.
 pub fn edit(
     hash: HashKind,
     trees: &[&[u8]],
     root: &[u8],
     script: &[u8],
 ) -> Result<Edited, EditError> {
-    let mut frames = Vec::new();
-    for tree in trees {
-        frames.extend(format!("tree {}\0", tree.len()).into_bytes());
-        frames.extend(*tree);
+    run(hash, &frames(trees), root, script)
+}
+
+/// As [`edit`], with trees that `find` looks up by their ids, each once. The library is called at most once more
+/// than the deepest path has names.
+///
+/// # Errors
+///
+/// [`EditError::Missing`] with the ids of trees that `find` doesn't find. The others are those of [`edit`].
+pub fn edit_with(
+    hash: HashKind,
+    trees: &[&[u8]],
+    root: &[u8],
+    script: &[u8],
+    mut find: impl FnMut(&[u8]) -> Option<Vec<u8>>,
+) -> Result<Edited, EditError> {
+    let mut given = frames(trees);
+    loop {
+        let missing = match run(hash, &given, root, script) {
+            Err(EditError::Missing(missing)) => missing,
+            done => return done,
+        };
+        let mut absent = Vec::new();
+        for it in missing {
+            match find(&it) {
+                Some(tree) if id(hash, Kind::Tree, &tree).as_bytes() == it => {
+                    append_frame(&mut given, &tree)
+                }
+                _ => absent.push(it),
+            }
+        }
+        if !absent.is_empty() {
+            return Err(EditError::Missing(absent));
+        }
     }
-    let (mut out, mut id) = (Vec::new(), vec![0; 32]);
+}
+
+fn frames(trees: &[&[u8]]) -> Vec<u8> {
+    let mut frames = Vec::new();
+    trees
+        .iter()
+        .for_each(|tree| append_frame(&mut frames, tree));
+    frames
+}
+
+fn append_frame(frames: &mut Vec<u8>, tree: &[u8]) {
+    frames.extend(format!("tree {}\0", tree.len()).into_bytes());
+    frames.extend(tree);
+}
+
+fn run(hash: HashKind, frames: &[u8], root: &[u8], script: &[u8]) -> Result<Edited, EditError> {
+    let lines = script.iter().filter(|byte| **byte == b'\n').count();
+    let mut out = vec![0; frames.len() + script.len()];
+    let mut id = vec![0; 32 * (lines + 2)];
     loop {
         let (mut out_len, mut id_len, mut number) = (0, 0, 0);
         // SAFETY: as in `id`; the buffers and the numbers are apart.
@@ -105,9 +163,18 @@ pub fn edit(
                 });
             }
             5 => out.resize(out_len, 0),
-            status => return Err(error_of(status, &id[..id_len], number)),
+            9 => return Err(EditError::Missing(distinct(&id[..id_len], root.len()))),
+            17 => return Err(EditError::LossyTree(id[..id_len].to_vec())),
+            status => return Err(error_of(status, number)),
         }
     }
+}
+
+/// Returns the ids of this length, each once.
+fn distinct(ids: &[u8], len: usize) -> Vec<Vec<u8>> {
+    let mut seen = HashSet::new();
+    let each = ids.chunks(len).filter(|id| seen.insert(*id));
+    each.map(<[u8]>::to_vec).collect()
 }
 
 /// Returns the trees in frames that the library wrote.
@@ -122,11 +189,10 @@ fn contents(mut frames: &[u8]) -> Vec<Vec<u8>> {
     trees
 }
 
-fn error_of(status: u32, id: &[u8], number: u64) -> EditError {
+fn error_of(status: u32, number: u64) -> EditError {
     match status {
         2 => EditError::Malformed,
         3 => EditError::OutOfMemory,
-        9 => EditError::Missing(id.to_vec()),
         10 => EditError::NotEncodable,
         12 => EditError::BadLine(number),
         14 => EditError::InvalidName(number),

@@ -24,7 +24,7 @@ mod trees;
 pub use actors::{Actor, actor};
 pub use commits::{Token, Tokens, commit_header, tokens, unfold};
 #[cfg(feature = "edit")]
-pub use edits::{EditError, Edited, edit};
+pub use edits::{EditError, Edited, edit, edit_with};
 #[cfg(feature = "reencode")]
 pub use encodings::reencode;
 pub use error::Error;

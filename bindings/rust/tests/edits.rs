@@ -1,6 +1,7 @@
 //! Edits of trees, with the feature `edit`.
 #![cfg(feature = "edit")]
-use cinguepo::{EditError, HashKind, Kind, edit, id};
+use cinguepo::{EditError, HashKind, Kind, edit, edit_with, id};
+use std::collections::HashMap;
 
 const SHA1: HashKind = HashKind::Sha1;
 
@@ -35,11 +36,11 @@ fn edits_write_the_trees_of_git() {
     let directory = id(SHA1, Kind::Tree, trees[0]).as_bytes().to_vec();
     assert_eq!(
         edit(SHA1, &trees[1..], &first.id, change),
-        Err(EditError::Missing(directory))
+        Err(EditError::Missing(vec![directory]))
     );
     assert_eq!(
         edit(SHA1, &[], &first.id, b""),
-        Err(EditError::Missing(first.id.clone()))
+        Err(EditError::Missing(vec![first.id.clone()]))
     );
     let failures: [(&[u8], EditError); 6] = [
         (b"\nx", EditError::BadLine(2)),
@@ -64,6 +65,82 @@ fn edits_write_the_trees_of_git() {
             b""
         ),
         Err(EditError::MalformedTree(0))
+    );
+}
+
+/// Each tree is looked up once, and those that aren't found are named.
+#[test]
+fn edits_look_up_trees() {
+    let lines = |kind| -> String {
+        (0..400)
+            .map(|n| format!("upsert {kind} ce013625030ba8dba906f756967f9e9ca394464a d{n}/f{n}\n"))
+            .collect()
+    };
+    let first = edit(SHA1, &[], &[0; 20], lines("blob").as_bytes()).unwrap();
+    let known: HashMap<_, _> = first
+        .trees
+        .iter()
+        .map(|it| (id(SHA1, Kind::Tree, it).as_bytes().to_vec(), it.clone()))
+        .collect();
+    let trees: Vec<&[u8]> = first.trees.iter().map(Vec::as_slice).collect();
+    let (root, script) = (&first.id, lines("exe"));
+    let mut asked = Vec::new();
+    let found = edit_with(SHA1, &[], root, script.as_bytes(), |id| {
+        asked.push(id.to_vec());
+        known.get(id).cloned()
+    });
+    assert_eq!(found, edit(SHA1, &trees, root, script.as_bytes()));
+    asked.sort();
+    asked.dedup();
+    assert_eq!((asked.len(), &asked[0] <= root), (401, true));
+    let last = &trees[trees.len() - 1..];
+    let Err(EditError::Missing(missing)) = edit(SHA1, last, root, script.as_bytes()) else {
+        panic!("no missing trees")
+    };
+    assert_eq!(missing.len(), 400);
+    let other = edit_with(SHA1, last, root, script.as_bytes(), |id| {
+        Some(if id == missing[7] {
+            vec![]
+        } else {
+            known[id].clone()
+        })
+    });
+    assert_eq!(other, Err(EditError::Missing(vec![missing[7].clone()])));
+}
+
+/// Git writes no mode 140755: such a tree isn't written with another mode, 040755.
+#[test]
+fn lossy_trees_are_rejected() {
+    let tree = b"140755 a\0ABCDEFGHIJKLMNOPQRST";
+    let lossy = id(SHA1, Kind::Tree, tree).as_bytes().to_vec();
+    assert_eq!(
+        edit(SHA1, &[tree], &lossy, b""),
+        Err(EditError::LossyTree(lossy))
+    );
+}
+
+/// Of several faults the first counts: the root, the first bad line, the first command that fails.
+#[test]
+fn the_first_fault_is_returned() {
+    let other = vec![1; 20];
+    assert_eq!(
+        edit(SHA1, &[], &other, b"x"),
+        Err(EditError::Missing(vec![other]))
+    );
+    assert_eq!(edit(SHA1, &[], b"short", b"x"), Err(EditError::Malformed));
+    assert_eq!(
+        edit(SHA1, &[], &[0; 20], b"remove /\n\nx\ny"),
+        Err(EditError::BadLine(3))
+    );
+    let tree = b"40000 a\0ABCDEFGHIJKLMNOPQRST";
+    let root = id(SHA1, Kind::Tree, tree);
+    assert_eq!(
+        edit(SHA1, &[tree], root.as_bytes(), b"remove /\nremove a/b"),
+        Err(EditError::InvalidName(1))
+    );
+    assert_eq!(
+        edit(SHA1, &[tree], root.as_bytes(), b"remove a/b\nremove /"),
+        Err(EditError::Missing(vec![b"ABCDEFGHIJKLMNOPQRST".to_vec()]))
     );
 }
 

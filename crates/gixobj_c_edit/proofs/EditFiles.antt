@@ -7,7 +7,6 @@ use Rattle.std.specs.List.{flat_map}
 use Rattle.std.specs.Prelude.{Some, map}
 use Rattle.gixobj_editor_write.specs.declared.write.Written.{Written}
 use Rattle.gixobj_c_edit.specs.Edits.{AreEncodableIfDone, HasFilesAfter, HasFilesOfWrites, HasRun, IsCommandsOf, IsEdited, IsEmitted, IsStart, command_steps, write_of_root}
-use Rattle.gixobj_c_edit.specs.Frames.{objects_of}
 use Rattle.gixobj_c_edit.specs.Replies.{AreDone, EndsInWrite}
 use Rattle.gixobj_c_edit.proofs.EditRuns.{IsDone, ends_in_write, lengths_before_last, run_encodable, steps_of_prefix}
 use Rattle.gixobj_editor.specs.Commands.{written_at, written_by}
@@ -50,12 +49,12 @@ written_at_lt (first ∷ replies) (suc k) it is = let less = written_at_lt repli
 
 -- ---- files
 
-module _ (hash : Kind) (state : State Memory) (trees root : List ℕ) (start : IsStart hash trees root state) (commands : List Command)
+module _ (hash : Kind) (state : State Memory) (trees root : List ℕ) (lossy : Objects) (start : IsStart hash trees root lossy state) (commands : List Command)
     (all : List (Reply Error))
     (ran : HasRun hash state commands all) (files : HasFilesOfWrites state commands all) where
   -- a written root has the files that the commands before it make, if they are done
   pub files_of_write : (T : Table) (k : ℕ) (it : Written) → written_at all k ≡ Some it → AreDone (take k all)
-      → AgreesWithRun T (objects_of hash start.contents) (take k all) → AgreesWithPairs T it.trees.items
+      → AgreesWithRun T start.objects (take k all) → AgreesWithPairs T it.trees.items
       → HasFilesAfter T (take k commands) start.entries it.id
   files_of_write T k it is done agrees pairs n =
       let own : AgreesWithRun T (memory_objects state.store) (take k all) =
@@ -70,7 +69,7 @@ module _ (hash : Kind) (state : State Memory) (trees root : List ℕ) (start : I
       same_files_trans (NamedFiles T n it.id) (FilesAfter T n its_steps (EditorFiles T n state)) (FilesAfter T n its_steps (Files T n start.entries)) named
       (history_congruent T n its_steps (EditorFiles T n state) (Files T n start.entries) (start.files T n))
 
-module _ (hash : Kind) (state : State Memory) (trees root : List ℕ) (start : IsStart hash trees root state) (commands : List Command)
+module _ (hash : Kind) (state : State Memory) (trees root : List ℕ) (lossy : Objects) (start : IsStart hash trees root lossy state) (commands : List Command)
     (replies : List (Reply Error)) (written : Written)
     (ran : HasRun hash state (commands ++ write_of_root ∷ []) (replies ++ reply.Edit (edit_reply.Written written) ∷ []))
     (files : HasFilesOfWrites state (commands ++ write_of_root ∷ []) (replies ++ reply.Edit (edit_reply.Written written) ∷ []))
@@ -85,14 +84,14 @@ module _ (hash : Kind) (state : State Memory) (trees root : List ℕ) (start : I
   -- the write with number k, whose replies before it are these
   files_at : (T : Table) (k : ℕ) (it : Written) (before : List (Reply Error)) (some : List Command) → written_at (replies ++ last) k ≡ Some it
       → take k (replies ++ last) ≡ before → take k (commands ++ write_of_root ∷ []) ≡ some → AreDone before
-      → AgreesWithRun T (objects_of hash start.contents) before → AgreesWithPairs T it.trees.items → HasFilesAfter T some start.entries it.id
+      → AgreesWithRun T start.objects before → AgreesWithPairs T it.trees.items → HasFilesAfter T some start.entries it.id
   files_at T k it before some is same_replies same_commands are agrees pairs =
       subst (λ (them : List Command). HasFilesAfter T them start.entries it.id) same_commands
-      (files_of_write hash state trees root start (commands ++ write_of_root ∷ []) (replies ++ last) ran files T k it is
+      (files_of_write hash state trees root lossy start (commands ++ write_of_root ∷ []) (replies ++ last) ran files T k it is
       (subst AreDone (sym same_replies) are)
-      (subst (AgreesWithRun T (objects_of hash start.contents)) (sym same_replies) agrees) pairs)
+      (subst (AgreesWithRun T start.objects) (sym same_replies) agrees) pairs)
 
-  pub files_of_last : (T : Table) → AgreesWithRun T (objects_of hash start.contents) replies → AgreesWithPairs T written.trees.items
+  pub files_of_last : (T : Table) → AgreesWithRun T start.objects replies → AgreesWithPairs T written.trees.items
       → HasFilesAfter T commands start.entries written.id
   files_of_last T agrees pairs =
       let its_commands : take (length replies) (commands ++ write_of_root ∷ []) ≡ commands =
@@ -101,7 +100,7 @@ module _ (hash : Kind) (state : State Memory) (trees root : List ℕ) (start : I
       (take-append_seam replies last) its_commands done agrees pairs
 
   pub files_of_earlier : (T : Table) (k : ℕ) (it : Written) → written_at replies k ≡ Some it
-      → AgreesWithRun T (objects_of hash start.contents) (take k replies) → AgreesWithPairs T it.trees.items
+      → AgreesWithRun T start.objects (take k replies) → AgreesWithPairs T it.trees.items
       → HasFilesAfter T (take k commands) start.entries it.id
   files_of_earlier T k it is agrees pairs =
       let less = written_at_lt replies k it is in
@@ -110,10 +109,11 @@ module _ (hash : Kind) (state : State Memory) (trees root : List ℕ) (start : I
 
 -- ---- the call
 
-pub is_edited : (hash : Kind) (trees root script : List ℕ) (state : State Memory) (all_commands : List Command) (all : List (Reply Error)) (frames id : List ℕ)
-    → IsCommandsOf hash script all_commands → IsStart hash trees root state → HasRun hash state all_commands all → HasFilesOfWrites state all_commands all
-    → IsEmitted all frames id → IsEdited hash trees root script frames id
-is_edited hash trees root script state all_commands all frames id (commands, joined, decodes) start ran files emitted =
+pub is_edited : (hash : Kind) (trees root script : List ℕ) (lossy : Objects) (state : State Memory) (all_commands : List Command)
+    (all : List (Reply Error)) (frames id : List ℕ)
+    → IsCommandsOf hash script all_commands → IsStart hash trees root lossy state → HasRun hash state all_commands all → HasFilesOfWrites state all_commands all
+    → IsEmitted hash all frames id → IsEdited hash trees root script frames id
+is_edited hash trees root script lossy state all_commands all frames id (commands, joined, decodes) start ran files emitted =
     let ran_joined : HasRun hash state (commands ++ write_of_root ∷ []) all =
     subst (λ (them : List Command). HasRun hash state them all) joined ran in
     let its_run = subst (HasRun hash state (commands ++ write_of_root ∷ [])) emitted.joined ran_joined in
@@ -121,10 +121,11 @@ is_edited hash trees root script state all_commands all frames id (commands, joi
     (subst (λ (them : List Command). HasFilesOfWrites state them all) joined files) in
     record {
       all = all;
+      lossy = lossy;
       run = record { commands = commands; decodes = decodes; state = state; start = start; ran = ran_joined };
       emitted = emitted;
-      files = files_of_last hash state trees root start commands emitted.replies emitted.written its_run its_files emitted.done;
-      earlier = files_of_earlier hash state trees root start commands emitted.replies emitted.written its_run its_files emitted.done;
+      files = files_of_last hash state trees root lossy start commands emitted.replies emitted.written its_run its_files emitted.done;
+      earlier = files_of_earlier hash state trees root lossy start commands emitted.replies emitted.written its_run its_files emitted.done;
     }
 
 pub all_ends_in_write : (hash : Kind) (script : List ℕ) (state : State Memory) (all_commands : List Command) (all : List (Reply Error))

@@ -1,22 +1,27 @@
 -- The replies to an edit script end in a write, whose id and trees are what `edited` returns: `editor_of`,
 -- `replies_of`, `new_trees` and `last_id` use it.
-use Rattle.std.proofs.Common.{◌≡◌, ◌∷◌, ◌++◌, ◌-◌, ◌∙◌, Contains, List, [], ℕ, ap, arith, inr, length, length-append, refl, subst, sym, take}
+use Rattle.std.proofs.Common.{◌≡◌, ◌∷◌, ◌++◌, ◌-◌, ◌∙◌, All, Contains, List, [], ℕ, ap, arith, inl, inr, length, length-append, refl, subst, sym, take}
 use Rattle.std.proofs.Math.Seq.{take-append_seam}
 use Rattle.std.proofs.lemmas.List.Elements.{All-contains, All-take, Contains-push}
 use Rattle.std.specs.Fn.{FnReturnsAt, Shared}
 use Rattle.std.specs.List.{flat_map}
-use Rattle.std.specs.Prelude.{None, Option, Result, Some, option_copied, slice_get}
+use Rattle.std.specs.Prelude.{None, Option, Result, Some, map, option_copied, slice_get}
 use denote.Ref.{Bor}
 use Rattle.gixobj_editor_write.specs.declared.write.WriteError.TheVariants as write
 use Rattle.gixobj_editor_write.specs.declared.write.Written.{Written}
-use Rattle.gixobj_c_edit.specs.Edits.{HasRun, IsCommandsOf, IsEditError, IsEmitted, IsRepliesError, IsStart, IsStartError}
+use Rattle.gixobj_c_edit.specs.Edits.{HasRun, IsCommandsOf, HasOwnId, IsEditError, IsEmitted, IsRepliesError, IsScriptFailure, IsStart, IsStartError}
+use Rattle.gixobj_c_edit.specs.Failures.{given_failure}
 use Rattle.gixobj_c_edit.specs.Frames.{HoldsFrames, encode_frame}
+use Rattle.gixobj_c_edit.specs.Lossy.{ReadsBack}
+use Rattle.gixobj_c_edit.specs.declared.frames.Given.{Given}
 use Rattle.gixobj_c_edit.specs.Replies.{AreDone, EndsInWrite, IsReplyToWrite, written_id}
 use Rattle.gixobj_c_edit.specs.Roots.{IsRootError}
 use Rattle.gixobj_c_edit.specs.declared.failure.Failure.{Failure}
+use Rattle.gixobj_c_edit.specs.declared.failure.Failure.TheVariants as failure
 use Rattle.gixobj_c_edit.proofs.EditRuns.{IsDone}
 use Rattle.gixobj_editor.specs.Commands.{emitted_pairs}
 use Rattle.gixobj_editor.specs.Replies.{IsRun}
+use Rattle.gixobj_editor_commands.specs.Views.{command_view}
 use Rattle.gixobj_editor_commands.specs.declared.command.Command.{Command}
 use Rattle.gixobj_editor.specs.declared.reply.EditReply.TheVariants as edit_reply
 use Rattle.gixobj_editor.specs.declared.reply.Reply.{Reply}
@@ -97,31 +102,27 @@ last_id_is_written all got last id ends done same is found =
     let its_id : id ≡ it.written.id = cc named in
     (it.before, it.written, it.joined, its_id)
 
-pub is_emitted : (all before : List (Reply Error)) (written : Written) (frames : List ℕ) (id : ObjectId)
+pub is_emitted : (hash : Kind) (all before : List (Reply Error)) (written : Written) (frames : List ℕ) (id : ObjectId)
     → all ≡ before ++ reply.Edit (edit_reply.Written written) ∷ [] → id ≡ written.id → AreDone all
-    → frames ≡ flat_map encode_frame (emitted_pairs all) → IsEmitted all frames (id_bytes id)
-is_emitted all before written frames id joined same done framed = record {
+    → frames ≡ flat_map encode_frame (emitted_pairs all) → All (λ pair. ReadsBack hash pair.1) (emitted_pairs all)
+    → IsEmitted hash all frames (id_bytes id)
+is_emitted hash all before written frames id joined same done framed read_back = record {
   replies = before;
   written = written;
   joined = joined;
   done = done_before_last all before (reply.Edit (edit_reply.Written written)) joined done;
   framed = framed;
+  read_back = read_back;
   named = ap id_bytes same;
 }
 
 -- ---- the start
 
-pub start_error_of_root : (hash : Kind) (trees root : List ℕ) (store : Memory) (it other : Failure) (number : ℕ) → HoldsFrames hash trees store
-    → IsRootError (memory_objects store) hash root it → other ≡ it → number ≡ 0 → IsStartError hash trees root other number
-start_error_of_root hash trees root store it other number (contents, given, holds) error same zero = (
-  zero,
-  inr (
-    contents,
-    given,
-    subst (λ (objects : Objects). IsRootError objects hash root other) holds
-        (subst (λ (f : Failure). IsRootError (memory_objects store) hash root f) (sym same) error),
-  ),
-)
+pub start_error_of_root : (hash : Kind) (trees root : List ℕ) (given : Given) (cause known it : Failure) (number : ℕ) (ids : List ℕ)
+    → HoldsFrames hash trees given → IsRootError (memory_objects given.trees) hash root cause → known ≡ given_failure (memory_objects given.lossy) cause
+    → HasOwnId known it ids → number ≡ 0 → IsStartError hash trees root it number ids
+start_error_of_root hash trees root given cause known it number ids holds error same own zero =
+    (zero, (known, inr (memory_objects given.trees, memory_objects given.lossy, cause, holds, error, same), own))
 
 -- ---- the run
 
@@ -132,11 +133,13 @@ pub has_run_of_answers : {F : Type 0} (of : Shared F (Bor (List EntryView) × Un
 has_run_of_answers of out hash old new commands replies within ran =
     (new, run_wider memory_model (λ tree answer. FnReturnsAt of out tree answer) (IsDigestResult hash) within old new commands replies ran)
 
-pub edit_error_of_replies : (hash : Kind) (trees root script : List ℕ) (state : State Memory) (all : List Command) (replies : List (Reply Error)) (it : Failure)
-    (number : ℕ) → IsCommandsOf hash script all → IsStart hash trees root state → HasRun hash state all replies → IsRepliesError replies it number
-    → IsEditError hash trees root script it number
-edit_error_of_replies hash trees root script state all replies it number (commands, joined, decodes) start ran error =
+pub edit_error_of_replies : (hash : Kind) (trees root script : List ℕ) (lossy : Objects) (state : State Memory) (all : List Command)
+    (replies : List (Reply Error)) (it : Failure) (number : ℕ) (ids : List ℕ)
+    → IsCommandsOf hash script all → IsStart hash trees root lossy state → HasRun hash state all replies
+    → IsRepliesError hash lossy replies it number ids → IsEditError hash trees root script it number ids
+edit_error_of_replies hash trees root script lossy state all replies it number ids (commands, joined, decodes) start ran error =
     inr (inr (
+      lossy,
       replies,
       record {
         commands = commands;
@@ -147,3 +150,13 @@ edit_error_of_replies hash trees root script state all replies it number (comman
       },
       error,
     ))
+
+pub edit_error_of_script : (hash : Kind) (trees root script : List ℕ) (lossy : Objects) (state : State Memory) (it : Failure) (number : ℕ) (ids : List ℕ)
+    → IsStart hash trees root lossy state → IsScriptFailure hash script it number → IsEditError hash trees root script it number ids
+edit_error_of_script hash trees root script lossy state it number ids start error = inr (inl (lossy, state, start, error))
+
+pub edit_error_of_memory : (hash : Kind) (trees root script : List ℕ) (lossy : Objects) (state : State Memory) (all : List Command) (it : Failure) (number : ℕ)
+    (ids : List ℕ) → IsCommandsOf hash script all → IsStart hash trees root lossy state → it ≡ failure.OutOfMemory
+    → IsEditError hash trees root script it number ids
+edit_error_of_memory hash trees root script lossy state all it number ids (commands, joined, decodes) start memory =
+    edit_error_of_script hash trees root script lossy state it number ids start (inr (memory, inr (map command_view commands, decodes)))

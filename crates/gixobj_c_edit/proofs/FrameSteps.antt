@@ -1,20 +1,21 @@
 -- Frames that follow each other; the proofs of `split_frame`, `tree_header` and `store_of` use them.
-use Rattle.std.proofs.Common.{◌≡◌, ◌≢◌, ◌<◌, ◌-◌, ◌==◌, ◌∷◌, ◌++◌, ◌∙◌, ap, arith, drop, length, length-append, false, refl, sym, take, true, ℕ, List, []}
+use Rattle.std.proofs.Common.{◌≡◌, ◌≢◌, ◌<◌, ◌-◌, ◌==◌, ◌∷◌, ◌++◌, ◌∙◌, ap, arith, drop, inl, inr, length, length-append, false, refl, sym, take, true, ℕ, List, []}
 use Rattle.std.proofs.lemmas.Bool.{eqb-true}
 use Rattle.std.proofs.lemmas.List.{length-drop, length-take-le}
 use Rattle.std.specs.FinMap as map
 use Rattle.std.specs.Prelude.{Err, None, Ok, Option, Result, Some}
-use Rattle.gixobj_c_edit.specs.Frames.{AreFrames, AreNoFrames, BeginsWithFrame, NextFrame, objects_of, with_contents}
+use Rattle.gixobj_c_edit.specs.Frames.{AreFrames, AreNoFrames, BeginsWithFrame, HoldsFrames, IsInserted, NextFrame, Parts, lossy_tree, objects_of, stored_tree, whole_tree, with_contents}
+use Rattle.gixobj_c_edit.specs.declared.frames.Given.{Given}
 use Rattle.gixobj_hash.proofs.Runs.{begins_with_pieces_snoc, yields_of_begins_with_pieces}
 use Rattle.gixobj_hash.specs.Runs.{HasNoPiece, BeginsWithPieces, Yields, broken, complete, yields_end, yields_error}
 use Rattle.gixobj_hash.proofs.Headers.{parts_of_loose_header}
 use Rattle.gixobj_hash.specs.Decode.{HasLooseHeaderOfLength}
 use Rattle.gixobj_hash.specs.Hash.{id_of}
 use Rattle.gixobj_hash.specs.declared.hash.kind.Kind as hash
-use Rattle.gixobj_hash.specs.declared.hash.object_id.ObjectId.{ObjectId}
 use Rattle.gixobj_hash.specs.declared.kind.Kind.{Kind}
 use Rattle.gixobj_hash.specs.declared.kind.Kind.TheVariants as kind
-use Rattle.gixobj_store.specs.Stores.{Objects, StoredObject}
+use Rattle.gixobj_store.specs.Stores.{Objects}
+use Rattle.gixobj_store_keep.specs.Memory.{memory_objects}
 
 pub not_nil_of_test : (xs : List ℕ) → (length xs == 0) ≡ false → xs ≢ []
 not_nil_of_test [] is = cc is
@@ -73,15 +74,11 @@ pub with_contents_snoc : (hash : hash.Kind) (contents : List (List ℕ)) (conten
 with_contents_snoc hash [] content objects = refl
 with_contents_snoc hash (first ∷ contents) content objects = with_contents_snoc hash contents content _
 
-abbrev pub stored_tree : hash.Kind → List ℕ → StoredObject
-stored_tree hash content = record { kind = kind.Tree; object_hash = hash; bytes = content }
-
-pub objects_snoc : (hash : hash.Kind) (contents : List (List ℕ)) (content : List ℕ) (old new : Objects) (id : ObjectId)
-    → new ≡ map.insert old id (stored_tree hash content) → id ≡ id_of hash kind.Tree content → old ≡ objects_of hash contents
+pub objects_snoc : (hash : hash.Kind) (contents : List (List ℕ)) (content : List ℕ) (old new : Objects)
+    → new ≡ map.insert old (id_of hash kind.Tree content) (stored_tree hash content) → old ≡ objects_of hash contents
     → new ≡ objects_of hash (contents ++ content ∷ [])
-objects_snoc hash contents content old new id inserted same is =
-    inserted ∙ ap (λ (i : ObjectId). map.insert old i (stored_tree hash content)) same
-    ∙ ap (λ (objects : Objects). map.insert objects (id_of hash kind.Tree content) (stored_tree hash content)) is
+objects_snoc hash contents content old new inserted is =
+    inserted ∙ ap (λ (objects : Objects). map.insert objects (id_of hash kind.Tree content) (stored_tree hash content)) is
     ∙ sym (with_contents_snoc hash contents content map.empty)
 
 module _ (bytes rest : List ℕ) (contents : List (List ℕ)) (begins_with : BeginsWithPieces NextFrame tt bytes contents tt rest) where
@@ -97,3 +94,43 @@ module _ (bytes rest : List ℕ) (contents : List (List ℕ)) (begins_with : Beg
   frames_broken some none =
       let yields : Yields NextFrame tt rest [] broken = yields_error tt rest some none in
       (contents, yields_of_begins_with_pieces NextFrame tt tt bytes rest contents broken begins_with yields)
+
+-- ---- the stores
+
+-- the trees of the frames so far, those that aren't lossy, and those that are
+abbrev pub FramesSoFar : hash.Kind → List ℕ → List ℕ → Given → Type 0
+FramesSoFar hash bytes rest given = (contents : List (List ℕ)) × (whole : List (List ℕ)) × (lossy : List (List ℕ))
+    × BeginsWithPieces NextFrame tt bytes contents tt rest × Parts hash contents whole lossy
+    × (memory_objects given.trees ≡ objects_of hash whole) × (memory_objects given.lossy ≡ objects_of hash lossy)
+
+pub frames_inserted : (hash : hash.Kind) (bytes rest content after : List ℕ) (old new : Given) → FramesSoFar hash bytes rest old
+    → BeginsWithFrame rest content after → IsInserted hash content old new → FramesSoFar hash bytes after new
+frames_inserted hash bytes rest content after old new (contents, whole, lossy, begins, parts, trees, others) is (inl (not_lossy, inserted, same)) = (
+  contents ++ content ∷ [],
+  whole ++ content ∷ [],
+  lossy,
+  frames_snoc bytes rest contents begins content after is,
+  whole_tree contents whole lossy content parts not_lossy,
+  objects_snoc hash whole content (memory_objects old.trees) (memory_objects new.trees) inserted trees,
+  same ∙ others,
+)
+frames_inserted hash bytes rest content after old new (contents, whole, lossy, begins, parts, trees, others) is (inr (is_lossy, inserted, same)) = (
+  contents ++ content ∷ [],
+  whole,
+  lossy ++ content ∷ [],
+  frames_snoc bytes rest contents begins content after is,
+  lossy_tree contents whole lossy content parts is_lossy,
+  same ∙ trees,
+  objects_snoc hash lossy content (memory_objects old.lossy) (memory_objects new.lossy) inserted others,
+)
+
+pub frames_held : (hash : hash.Kind) (bytes rest : List ℕ) (given : Given) → FramesSoFar hash bytes rest given → rest ≡ [] → HoldsFrames hash bytes given
+frames_held hash bytes rest given (contents, whole, lossy, begins, parts, trees, others) none = record {
+  contents = contents;
+  whole_contents = whole;
+  lossy_contents = lossy;
+  frames = frames_end bytes rest contents begins none;
+  parts = parts;
+  whole_are = trees;
+  lossy_are = others;
+}

@@ -1,12 +1,13 @@
 -- Results of the call that edits stored trees by a script.
-use Rattle.std.specs.Prelude.{◌≡◌, ◌<◌, ◌+◌, ◌++◌, ◌∷◌, ◌⊎◌, ℕ, All, List, [], None, Option, Some, length, map, take}
+use Rattle.std.specs.Prelude.{◌≡◌, ◌<◌, ◌+◌, ◌++◌, ◌∷◌, ◌⊎◌, ℕ, All, Contains, List, [], None, Option, Some, length, map, take}
 use Rattle.std.specs.List.{flat_map}
 use Rattle.gixobj_c_codes.specs.Buffers.{HasPrefix, WritesTwo}
-use Rattle.gixobj_c_codes.specs.Codes.{buffer_too_short, not_found, unknown_code}
+use Rattle.gixobj_c_codes.specs.Codes.{buffer_too_short, unknown_code}
 use Rattle.gixobj_editor_write.specs.declared.write.Written.{Written}
-use Rattle.gixobj_c_edit.specs.Failures.{failure_status}
-use Rattle.gixobj_c_edit.specs.Frames.{AreFrames, IsFramesError, encode_frame, objects_of}
-use Rattle.gixobj_c_edit.specs.Replies.{AreDone, IsFirstFailure}
+use Rattle.gixobj_c_edit.specs.Failures.{failure_status, given_failure, own_id}
+use Rattle.gixobj_c_edit.specs.Frames.{AreTreesOfFrames, IsFramesError, encode_frame}
+use Rattle.gixobj_c_edit.specs.Lossy.{ReadsBack}
+use Rattle.gixobj_c_edit.specs.Replies.{AreDone, IsFirstFailure, failure_ids}
 use Rattle.gixobj_c_edit.specs.Roots.{IsRootError, IsRootOf}
 use Rattle.gixobj_c_edit.specs.declared.failure.Failure.{Failure}
 use Rattle.gixobj_c_edit.specs.declared.failure.Failure.TheVariants as failure
@@ -37,7 +38,8 @@ use Rattle.gixobj_tree_entries.specs.Mode.{mode_of_kind}
 use Rattle.gixobj_cli_edit.specs.Edits.{IsScriptRunError, memory_model}
 use Rattle.gixobj_editor_commands.specs.Scripts.{IsFirstBad, IsScript}
 use Rattle.gixobj_editor_commands.specs.declared.script.ScriptError.TheVariants as parsing
-use Rattle.gixobj_tree_entries.specs.Entries.{EntryView}
+use Rattle.gixobj_store.specs.Stores.{Objects}
+use Rattle.gixobj_tree_entries.specs.Entries.{EntryView, Pair}
 use Rattle.gixobj_tree.specs.TreeEncoding.{IsDigestResult, IsEncodableTree}
 
 -- ---- the run
@@ -51,14 +53,15 @@ abbrev pub IsCommandsOf : Kind → List ℕ → List Command → Type 0
 IsCommandsOf hash script all = (commands : List Command) × (all ≡ commands ++ write_of_root ∷ [])
     × IsScript hash script (map command_view commands)
 
--- an editor of the root over a store of the stored trees; its files are those of the root
-pub record IsStart (hash : Kind) (trees root : List ℕ) (state : State Memory) : Type 0 where
-  pub contents : List (List ℕ)
-  pub given : AreFrames trees contents
+-- an editor of the root over a store of the stored trees that aren't lossy; its files are those of the root. The lossy
+-- trees are apart
+pub record IsStart (hash : Kind) (trees root : List ℕ) (lossy : Objects) (state : State Memory) : Type 0 where
+  pub objects : Objects
+  pub given : AreTreesOfFrames hash trees objects lossy
   pub entries : List EntryView
-  pub rooted : IsRootOf (objects_of hash contents) hash root entries
+  pub rooted : IsRootOf objects hash root entries
   pub store : Memory
-  pub holds : memory_objects store ≡ objects_of hash contents
+  pub holds : memory_objects store ≡ objects
   pub state_is : state ≡ new_state entries store hash
   pub has_bases : (T : Table) → HasBases T (open_dirs state) (open_bases state)
   pub files : (T : Table) (n : ℕ) → SameFiles (EditorFiles T n state) (Files T n entries)
@@ -77,11 +80,12 @@ HasFilesOfWrites state commands replies = (T : Table) (n k : ℕ) (written : Wri
     (FilesAfter T n (accepted_steps (take k commands) (take k replies)) (EditorFiles T n state))
 
 -- the script's commands and a write of the root were run on the stored trees, and got these replies
-pub record IsRunOf (hash : Kind) (trees root script : List ℕ) (replies : List (Reply Error)) : Type 0 where
+pub record IsRunOf (hash : Kind) (trees root script : List ℕ) (lossy : Objects) (replies : List (Reply Error))
+    : Type 0 where
   pub commands : List Command
   pub decodes : IsScript hash script (map command_view commands)
   pub state : State Memory
-  pub start : IsStart hash trees root state
+  pub start : IsStart hash trees root lossy state
   pub ran : HasRun hash state (commands ++ write_of_root ∷ []) replies
 
 -- ---- success
@@ -106,13 +110,14 @@ HasFilesAfter T commands entries id = (n : ℕ) → SameFiles (NamedFiles T n id
     (FilesAfter T n (flat_map command_steps (map command_view commands)) (Files T n entries))
 
 -- all commands are done, and the write after them; these are the frames of the trees that all writes emitted, in order,
--- and the id of the last root
-pub record IsEmitted (all : List (Reply Error)) (frames id : List ℕ) : Type 0 where
+-- and the id of the last root. The encoding of each tree decodes to it
+pub record IsEmitted (hash : Kind) (all : List (Reply Error)) (frames id : List ℕ) : Type 0 where
   pub replies : List (Reply Error)
   pub written : Written
   pub joined : all ≡ replies ++ reply.Edit (edit_reply.Written written) ∷ []
   pub done : AreDone replies
   pub framed : frames ≡ flat_map encode_frame (emitted_pairs all)
+  pub read_back : All (λ pair. ReadsBack hash pair.1) (emitted_pairs all)
   pub named : id ≡ id_bytes written.id
 
 -- the run's commands are done, and it emitted these trees. The last root has exactly the files that the script's
@@ -120,13 +125,14 @@ pub record IsEmitted (all : List (Reply Error)) (frames id : List ℕ) : Type 0 
 -- and the emitted ones as the store keeps them. Likewise each earlier root has those of the commands before its write
 pub record IsEdited (hash : Kind) (trees root script frames id : List ℕ) : Type 0 where
   pub all : List (Reply Error)
-  pub run : IsRunOf hash trees root script all
-  pub emitted : IsEmitted all frames id
-  pub files : (T : Table) → AgreesWithRun T (objects_of hash run.start.contents) emitted.replies
+  pub lossy : Objects
+  pub run : IsRunOf hash trees root script lossy all
+  pub emitted : IsEmitted hash all frames id
+  pub files : (T : Table) → AgreesWithRun T run.start.objects emitted.replies
       → AgreesWithPairs T emitted.written.trees.items
       → HasFilesAfter T run.commands run.start.entries emitted.written.id
   pub earlier : (T : Table) (k : ℕ) (it : Written) → written_at emitted.replies k ≡ Some it
-      → AgreesWithRun T (objects_of hash run.start.contents) (take k emitted.replies)
+      → AgreesWithRun T run.start.objects (take k emitted.replies)
       → AgreesWithPairs T it.trees.items → HasFilesAfter T (take k run.commands) run.start.entries it.id
 
 -- ---- failure
@@ -141,44 +147,77 @@ abbrev pub IsScriptFailure : Kind → List ℕ → Failure → ℕ → Type 0
 IsScriptFailure hash script it number = ((it ≡ failure.BadLine) × IsFirstBad hash script number)
     ⊎ ((it ≡ failure.OutOfMemory) × IsScriptRunError hash script parsing.OutOfMemory)
 
--- why there is no editor: the bytes are no frames, or there is no root
-abbrev pub IsStartError : Kind → List ℕ → List ℕ → Failure → ℕ → Type 0
-IsStartError hash trees root it number = (number ≡ 0) × (IsFramesError trees it
-    ⊎ ((contents : List (List ℕ)) × AreFrames trees contents × IsRootError (objects_of hash contents) hash root it))
+-- the failure has the id in it; or out of memory for this id
+abbrev pub HasOwnId : Failure → Failure → List ℕ → Type 0
+HasOwnId cause it ids = ((it ≡ cause) × (ids ≡ own_id cause)) ⊎ ((it ≡ failure.OutOfMemory) × (ids ≡ []))
+
+-- why the trees have no root: they are no frames; else there is no root, or it is lossy
+abbrev pub IsNoRoot : Kind → List ℕ → List ℕ → Failure → Type 0
+IsNoRoot hash trees root it = IsFramesError trees it
+    ⊎ ((objects lossy : Objects) × (cause : Failure) × AreTreesOfFrames hash trees objects lossy
+    × IsRootError objects hash root cause × (it ≡ given_failure lossy cause))
+
+-- why there is no editor: the trees have no root
+abbrev pub IsStartError : Kind → List ℕ → List ℕ → Failure → ℕ → List ℕ → Type 0
+IsStartError hash trees root it number ids = (number ≡ 0) × ((cause : Failure) × IsNoRoot hash trees root cause
+    × HasOwnId cause it ids)
+
+-- the failure of the first command that failed has the ids of the trees that commands lack; or out of memory for them
+abbrev pub IsFailedAt : Objects → List (Reply Error) → Failure → Failure → List ℕ → Type 0
+IsFailedAt lossy all first it ids =
+    ((it ≡ given_failure lossy first) × (ids ≡ failure_ids lossy all (given_failure lossy first)))
+    ⊎ ((it ≡ failure.OutOfMemory) × (ids ≡ []))
+
+-- the encoding of an emitted tree with this id doesn't decode to it
+abbrev pub IsLossyEmitted : Kind → List (Reply Error) → Failure → Type 0
+IsLossyEmitted hash all it = (pair : Pair) × Contains (emitted_pairs all) pair × (¬ ReadsBack hash pair.1)
+    × (it ≡ failure.LossyTree pair.0)
 
 -- why the replies have no new trees: the first command that failed, by its number from 1, where the write after them
--- counts as a command; or out of memory for the frames, after all are done
-abbrev pub IsRepliesError : List (Reply Error) → Failure → ℕ → Type 0
-IsRepliesError all it number = ((index : ℕ) × IsFirstFailure all index it × (number ≡ index + 1))
-    ⊎ (AreDone all × (it ≡ failure.OutOfMemory) × (number ≡ length all))
+-- counts as a command; or after all are done an emitted tree that is lossy, or out of memory for the frames
+abbrev pub IsRepliesError : Kind → Objects → List (Reply Error) → Failure → ℕ → List ℕ → Type 0
+IsRepliesError hash lossy all it number ids =
+    ((index : ℕ) × (first : Failure) × IsFirstFailure all index first × (number ≡ index + 1)
+    × IsFailedAt lossy all first it ids)
+    ⊎ (AreDone all × (number ≡ length all) × ((cause : Failure)
+    × (IsLossyEmitted hash all cause ⊎ (cause ≡ failure.OutOfMemory)) × HasOwnId cause it ids))
 
--- why there are no new trees: the script, the stored trees, the root, a command or the write; or out of memory
-abbrev pub IsEditError : Kind → List ℕ → List ℕ → List ℕ → Failure → ℕ → Type 0
-IsEditError hash trees root script it number = IsScriptFailure hash script it number
-    ⊎ (IsStartError hash trees root it number
-    ⊎ ((replies : List (Reply Error)) × IsRunOf hash trees root script replies × IsRepliesError replies it number))
+-- why there are no new trees, by the first of these faults: the trees are no frames, there is no root, a line of the
+-- script is bad, a command or the write fails, an emitted tree is lossy; or out of memory
+abbrev pub IsEditError : Kind → List ℕ → List ℕ → List ℕ → Failure → ℕ → List ℕ → Type 0
+IsEditError hash trees root script it number ids = IsStartError hash trees root it number ids
+    ⊎ (((lossy : Objects) × (state : State Memory) × IsStart hash trees root lossy state
+    × IsScriptFailure hash script it number)
+    ⊎ ((lossy : Objects) × (replies : List (Reply Error)) × IsRunOf hash trees root script lossy replies
+    × IsRepliesError hash lossy replies it number ids))
 
--- the number of the failure is written, and its status returned. The id of a missing tree is written, if the buffer is
--- long enough
-abbrev pub WritesFailure : Failure → ℕ → List ℕ → List ℕ → ℕ → ℕ → ℕ → ℕ → Type 0
-WritesFailure (failure.NotFound missing) number before after len_before len written status =
-    (written ≡ number) × (len ≡ length (id_bytes missing))
-    × (((status ≡ not_found) × HasPrefix (id_bytes missing) before after)
-    ⊎ ((status ≡ buffer_too_short) × (length before < length (id_bytes missing)) × (after ≡ before)))
-WritesFailure it number before after len_before len written status =
+-- the ids are written, if the buffer is long enough; the status is this one or that of a short buffer
+abbrev pub WritesIds : ℕ → List ℕ → List ℕ → List ℕ → ℕ → ℕ → Type 0
+WritesIds wanted ids before after len status = (len ≡ length ids)
+    × (((status ≡ wanted) × HasPrefix ids before after)
+    ⊎ ((status ≡ buffer_too_short) × (length before < length ids) × (after ≡ before)))
+
+-- the number of the failure is written, and its status returned; of missing or lossy trees the ids are written
+abbrev pub WritesFailure : Failure → ℕ → List ℕ → List ℕ → List ℕ → ℕ → ℕ → ℕ → ℕ → Type 0
+WritesFailure (failure.NotFound first) number ids before after len_before len written status =
+    (written ≡ number) × WritesIds (failure_status (failure.NotFound first)) ids before after len status
+WritesFailure (failure.LossyTree first) number ids before after len_before len written status =
+    (written ≡ number) × WritesIds (failure_status (failure.LossyTree first)) ids before after len status
+WritesFailure it number ids before after len_before len written status =
     (written ≡ number) × (len ≡ len_before) × (status ≡ failure_status it) × (after ≡ before)
 
 -- ---- the call
 
--- the new trees and the id of the root are written; or the number of the failure, and the id of a missing tree
+-- the new trees and the id of the root are written; or the number of the failure, and the ids of missing or lossy
+-- trees
 abbrev pub IsEditCall : Option Kind → List ℕ → List ℕ → List ℕ → List ℕ → List ℕ → ℕ → ℕ → List ℕ → List ℕ → ℕ → ℕ
     → ℕ → ℕ → ℕ → Type 0
 IsEditCall (Some hash) trees root script before after len_before len id_before id_after id_len_before id_len
     number_before number status =
     ((frames id : List ℕ) × IsEdited hash trees root script frames id
     × WritesTwo frames before after len id id_before id_after id_len status × (number ≡ number_before))
-    ⊎ ((it : Failure) × (at : ℕ) × IsEditError hash trees root script it at
-    × WritesFailure it at id_before id_after id_len_before id_len number status × (after ≡ before)
+    ⊎ ((it : Failure) × (at : ℕ) × (ids : List ℕ) × IsEditError hash trees root script it at ids
+    × WritesFailure it at ids id_before id_after id_len_before id_len number status × (after ≡ before)
     × (len ≡ len_before))
 IsEditCall None trees root script before after len_before len id_before id_after id_len_before id_len number_before
     number status = (status ≡ unknown_code) × (after ≡ before) × (len ≡ len_before) × (id_after ≡ id_before)

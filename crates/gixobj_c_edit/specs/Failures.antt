@@ -1,5 +1,5 @@
 -- Why there are no new trees.
-use Rattle.std.specs.Prelude.{ℕ}
+use Rattle.std.specs.Prelude.{ℕ, List, None, Option, Some, []}
 use Rattle.gixobj_c_codes.specs.Codes.{bad_line, invalid_name, is_directory, malformed, malformed_tree, not_encodable, not_found, out_of_memory}
 use Rattle.gixobj_c_edit.specs.declared.failure.Failure.{Failure}
 use Rattle.gixobj_c_edit.specs.declared.failure.Failure.TheVariants as failure
@@ -12,7 +12,14 @@ use Rattle.gixobj_store_keep.specs.declared.find.existing_object.Error as existi
 use Rattle.gixobj_store_keep.specs.declared.find.existing_object.Error.TheVariants as object
 use Rattle.gixobj_store_keep.specs.declared.keeping.KeepError.{KeepError}
 use Rattle.gixobj_store_keep.specs.declared.keeping.KeepError.TheVariants as keep
+use Rattle.gixobj_hash.specs.Hash.{id_bytes}
+use Rattle.gixobj_hash.specs.declared.hash.object_id.ObjectId.{ObjectId}
+use Rattle.gixobj_store.specs.Stores.{Objects, StoredObject, named}
 use Rattle.gixobj_store.specs.declared.find.Error.TheVariants as find
+
+-- the status of a tree whose encoding doesn't decode to it
+abbrev pub lossy_tree : ℕ
+lossy_tree = 17
 
 -- the status of a failure
 abbrev pub failure_status : Failure → ℕ
@@ -24,6 +31,23 @@ failure_status failure.IsDirectory = is_directory
 failure_status (failure.NotFound id) = not_found
 failure_status failure.MalformedTree = malformed_tree
 failure_status failure.NotEncodable = not_encodable
+failure_status (failure.LossyTree id) = lossy_tree
+
+-- the id that a failure has, or nothing
+abbrev pub own_id : Failure → List ℕ
+own_id (failure.NotFound id) = id_bytes id
+own_id (failure.LossyTree id) = id_bytes id
+own_id it = []
+
+-- a tree that is looked up is missing, or it is one of the lossy trees
+abbrev pub missing_or_lossy : ObjectId → Option StoredObject → Failure
+missing_or_lossy id None = failure.NotFound id
+missing_or_lossy id (Some it) = failure.LossyTree id
+
+-- the failure by these lossy trees, of one that finds none of them
+abbrev pub given_failure : Objects → Failure → Failure
+given_failure lossy (failure.NotFound id) = missing_or_lossy id (named lossy id)
+given_failure lossy it = it
 
 -- the failure of a lookup of a tree
 abbrev pub lookup_failure : existing.Error → Failure

@@ -1,7 +1,8 @@
 -- Replies to the commands of a script, and to the write after them.
 use Rattle.std.specs.Prelude.{◌≡◌, ◌++◌, ◌∷◌, ℕ, All, List, [], None, Option, Some, length, ⊤}
+use Rattle.std.specs.List.{flat_map}
 use Rattle.gixobj_editor_write.specs.declared.write.WriteError.TheVariants as write
-use Rattle.gixobj_c_edit.specs.Failures.{edit_failure, encode_failure, keep_failure}
+use Rattle.gixobj_c_edit.specs.Failures.{edit_failure, encode_failure, given_failure, keep_failure, own_id}
 use Rattle.gixobj_c_edit.specs.declared.failure.Failure.{Failure}
 use Rattle.gixobj_c_edit.specs.declared.failure.Failure.TheVariants as failure
 use Rattle.gixobj_editor.specs.declared.reply.EditReply.{EditReply}
@@ -9,6 +10,8 @@ use Rattle.gixobj_editor.specs.declared.reply.EditReply.TheVariants as edit_repl
 use Rattle.gixobj_editor.specs.declared.reply.Reply.{Reply}
 use Rattle.gixobj_editor.specs.declared.reply.Reply.TheVariants as reply
 use Rattle.gixobj_streams.specs.declared.encode.Error.{Error}
+use Rattle.gixobj_hash.specs.Hash.{id_bytes}
+use Rattle.gixobj_store.specs.Stores.{Objects}
 use Rattle.gixobj_hash.specs.declared.hash.object_id.ObjectId.{ObjectId}
 
 -- the failure of an edit or a write by its reply, or none if it is done
@@ -37,6 +40,30 @@ reply_failure (reply.At replies) = edits_failure replies.items
 reply_failure (reply.AtRefused error) = Some (edit_failure error)
 reply_failure reply.RootSet = None
 reply_failure reply.RootRefused = Some failure.MalformedTree
+
+-- the id of a missing tree, by a failure
+abbrev pub id_of_missing : Failure → List ℕ
+id_of_missing (failure.NotFound id) = id_bytes id
+id_of_missing it = []
+
+-- the id of the tree that a command lacks, by its failure; a lossy tree isn't missing
+abbrev pub missing_of : Objects → Option Failure → List ℕ
+missing_of lossy None = []
+missing_of lossy (Some it) = id_of_missing (given_failure lossy it)
+
+-- the id of the tree that a command lacks, by its reply
+abbrev pub missing_id : Objects → Reply Error → List ℕ
+missing_id lossy it = missing_of lossy (reply_failure it)
+
+-- the ids of the trees that commands lack, one after another, in the order of the commands. A command that fails leaves
+-- the editor's files as they are, and those after it are run
+abbrev pub missing_ids : Objects → List (Reply Error) → List ℕ
+missing_ids lossy replies = flat_map (missing_id lossy) replies
+
+-- the ids of a failure: all missing trees, or a lossy one
+abbrev pub failure_ids : Objects → List (Reply Error) → Failure → List ℕ
+failure_ids lossy replies (failure.NotFound id) = missing_ids lossy replies
+failure_ids lossy replies it = own_id it
 
 -- all commands are done
 abbrev pub AreDone : List (Reply Error) → Type 0

@@ -1,6 +1,7 @@
 //! Why there are no new trees.
 ghost use Rattle.std.specs.Prelude.{◌≡◌};
-ghost use Rattle.gixobj_c_edit.specs.Failures.{failure_status, keep_failure, lookup_failure, edit_failure, encode_failure};
+ghost use Rattle.gixobj_c_edit.specs.Failures.{failure_status, given_failure, keep_failure, lookup_failure, edit_failure, encode_failure};
+ghost use Rattle.gixobj_store_keep.specs.Memory.{memory_objects};
 
 use gixobj_c_codes::codes::{
     BAD_LINE, INVALID_NAME, IS_DIRECTORY, MALFORMED, MALFORMED_TREE, NOT_ENCODABLE, NOT_FOUND,
@@ -10,9 +11,9 @@ use gixobj_editor::editor::Error;
 use gixobj_encode::encode;
 use gixobj_hash::decode;
 use gixobj_hash::hash::ObjectId;
-use gixobj_store::find;
-use gixobj_store_keep::KeepError;
+use gixobj_store::{Exists, find};
 use gixobj_store_keep::find::existing_object;
+use gixobj_store_keep::{KeepError, Memory};
 
 /// Why there are no new trees.
 #[derive(Clone, Copy)]
@@ -33,7 +34,12 @@ pub enum Failure {
     MalformedTree,
     /// A name has a zero byte.
     NotEncodable,
+    /// The encoding of the tree with this id doesn't decode to it.
+    LossyTree(ObjectId),
 }
+
+/// The status of a tree whose encoding doesn't decode to it.
+const LOSSY_TREE: u32 = 17;
 
 /// Returns the status of a failure.
 pub fn failure_status(failure: Failure) -> u32
@@ -48,6 +54,17 @@ pub fn failure_status(failure: Failure) -> u32
         Failure::NotFound(_) => NOT_FOUND,
         Failure::MalformedTree => MALFORMED_TREE,
         Failure::NotEncodable => NOT_ENCODABLE,
+        Failure::LossyTree(_) => LOSSY_TREE,
+    }
+}
+
+/// Returns the failure, and that of a lossy tree if it is missing because it is lossy.
+pub fn given_failure(lossy: &Memory, failure: Failure) -> Failure
+    ensures { result ≡ given_failure (memory_objects lossy.now) failure }
+{
+    match failure {
+        Failure::NotFound(id) if lossy.exists(id.as_oid()) => Failure::LossyTree(id),
+        other => other,
     }
 }
 

@@ -7,5 +7,6 @@
 mod edits;
 mod failure;
 mod frames;
+mod lossy;
 mod replies;
 mod roots;
