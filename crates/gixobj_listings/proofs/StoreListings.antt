@@ -1,5 +1,5 @@
 -- The files of a store's trees, in each table that agrees with the store: the returns and the step of `files_of`.
-use Rattle.std.proofs.Common.{◌≡◌, ◌≢◌, ◌⊎◌, ◌+◌, ◌-◌, ◌<◌, ◌≤◌, ℕ, zero, suc, true, false, List, [], ◌∷◌, ◌++◌, ◌∙◌, All, ap, arith, get_or, length, map, subst, take}
+use Rattle.std.proofs.Common.{◌≡◌, ◌≢◌, ◌⊎◌, ◌+◌, ◌-◌, ◌<◌, ◌≤◌, ℕ, zero, suc, true, false, List, [], ◌∷◌, ◌++◌, ◌∙◌, All, ap, arith, get_or, length, map, subst, sym, take}
 use Rattle.std.proofs.lemmas.List.{take_all}
 use Rattle.std.specs.List.{AllByRecursion}
 use Rattle.std.specs.Prelude.{IsFalse}
@@ -15,7 +15,7 @@ use Rattle.gixobj_listings.proofs.Histories.{same_files_trans}
 use Rattle.gixobj_listings.proofs.Rooted.{root_named}
 use Rattle.gixobj_listings.proofs.Unread.{has_tree_of_read}
 use Rattle.gixobj_listings.specs.FileLists.{FileView, IsBounded, Lists, with_first_name}
-use Rattle.gixobj_listings.specs.Listings.{AreAllRead, HasFilesAt, HasFilesOf, IsAtEntry}
+use Rattle.gixobj_listings.specs.Listings.{AreAllRead, HasFilesAt, HasFilesOf, HasFilesOfEntries, IsAtEntry}
 use Rattle.gixobj_listings.specs.Roots.{IsRoot}
 
 -- the files of the entries before a position
@@ -52,6 +52,13 @@ has_files_of_root same_or_not objects depth root tree i files is_root all so_far
     same_files_trans (Lists files) (Files T n tree) (NamedFiles T n root)
     (subst (λ (es : List EntryView). SameFiles (Lists files) (Files T n es)) (take_all i tree all) (so_far trees fits T n agrees le))
     (root_named same_or_not T objects trees root tree some fits agrees is_root n)
+
+-- the same, by the entries of the root
+pub has_files_of_entries : (objects : Objects) (depth : ℕ) (tree entries : List EntryView) (i : ℕ) (files : List FileView) → entries ≡ tree
+    → length tree ≤ i → HasFilesBefore objects depth tree i files
+    → HasFilesOfEntries objects depth entries files
+has_files_of_entries objects depth tree entries i files same all so_far trees fits T n agrees le =
+    subst (λ (es : List EntryView). SameFiles (Lists files) (Files T n es)) (take_all i tree all ∙ sym same) (so_far trees fits T n agrees le)
 
 -- ---- the files at an entry
 

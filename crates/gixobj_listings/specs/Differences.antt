@@ -1,11 +1,11 @@
 -- Changes between the files of two stored trees, and the errors of a comparison (git-diff-tree, `-r`).
-use Rattle.std.specs.Prelude.{◌≡◌, ◌⊎◌, ◌≤◌, ◌+◌, ℕ, Bool, List, [], ◌∷◌, Option, Some, None, ⊤}
+use Rattle.std.specs.Prelude.{◌≡◌, ◌≢◌, ◌⊎◌, ◌≤◌, ◌+◌, ℕ, Bool, List, [], ◌∷◌, Option, Some, None, ⊤}
 use Rattle.std.specs.List.{AllByRecursion}
 use Rattle.std.specs.Option.{option_copied}
 use Rattle.bstr.specs.Owned.{bstring_bytes}
 use Rattle.gix_object.specs.Calls.{names_of}
 use Rattle.gix_object.specs.Entries.{EntryView}
-use Rattle.gix_object.specs.Files.{NamedFiles, Path, Table}
+use Rattle.gix_object.specs.Files.{ContainsEntry, NamedFiles, Path, Table}
 use Rattle.gix_object.specs.KeyOrder.{entry_key}
 use Rattle.gix_object.specs.Mode.{is_tree_mode}
 use Rattle.gix_object.specs.Openings.{OfTrees}
@@ -15,7 +15,7 @@ use Rattle.gix_object.specs.hash.hash.object_id.ObjectId.{ObjectId}
 use Rattle.gixobj_listings.specs.Changes.{AreChanges, ChangeView, EntryPairView, FilesOfSide, HasName, IsAheadOf, sides}
 use Rattle.gixobj_listings.specs.FileLists.{has_names}
 use Rattle.gixobj_listings.specs.Listings.{AreReadBelow, IsDirectory, IsUnread, IsUnreadError, LeadsToDirectory}
-use Rattle.gixobj_listings.specs.Roots.{IsRootError}
+use Rattle.gixobj_listings.specs.Roots.{IsRoot, IsRootError}
 use Rattle.gixobj_listings.specs.declared.differences.pairs.EntryPair.{EntryPair}
 use Rattle.gixobj_listings.specs.declared.listing.ListError.{ListError}
 use Rattle.gixobj_listings.specs.declared.listing.ListError.TheVariants as list
@@ -74,25 +74,59 @@ IsReadIfAlone objects (Some e, Some other) = ⊤
 
 -- ---- errors
 
--- the error of a comparison: a directory of one of the trees isn't read; or out of memory
+-- the directory of a name among these entries; or none, if no entry of the name is a directory
+abbrev pub IsDirectoryOfName : List EntryView → List ℕ → Option EntryView → Type 0
+IsDirectoryOfName entries name None = (e : EntryView) → ContainsEntry entries e → e.name ≡ name → ¬ IsDirectory e
+IsDirectoryOfName entries name (Some e) = ContainsEntry entries e × (e.name ≡ name) × IsDirectory e
+
+-- the path leads from a directory that only one tree has to this directory; or from two that differ in mode or id, as
+-- `Unequal` says
+abbrev pub LeadsFromSides : Objects → (ObjectId → ObjectId → Type 0) → Option EntryView → Option EntryView → Path
+    → ObjectId → Type 0
+LeadsFromSides objects Unequal None None path id = ⊥
+LeadsFromSides objects Unequal (Some e) None path id = LeadsToDirectory objects e.id path id
+LeadsFromSides objects Unequal None (Some e) path id = LeadsToDirectory objects e.id path id
+LeadsFromSides objects Unequal (Some e) (Some other) path id = (e ≢ other) × Unequal e.id other.id
+
+-- the same, from the directories of a name among the entries of two trees
+abbrev pub LeadsFromEntries : Objects → (ObjectId → ObjectId → Type 0) → List EntryView → List EntryView → List ℕ
+    → Path → ObjectId → Type 0
+LeadsFromEntries objects Unequal lefts rights name path id = (before after : Option EntryView)
+    × IsDirectoryOfName lefts name before × IsDirectoryOfName rights name after
+    × LeadsFromSides objects Unequal before after path id
+
+-- the path leads from one of two trees to this directory; on the way, and at its end, the trees have no equal
+-- directories at one path
+abbrev pub LeadsToUnequal : Objects → ObjectId → ObjectId → Path → ObjectId → Type 0
+LeadsToUnequal objects from to [] id = (from ≡ id) ⊎ (to ≡ id)
+LeadsToUnequal objects from to (name ∷ path) id = (lefts rights : List EntryView) × IsRoot objects from lefts
+    × IsRoot objects to rights
+    × LeadsFromEntries objects (λ x y. LeadsToUnequal objects x y path id) lefts rights name path id
+
+-- the error of a comparison: a directory of one of the trees isn't read, without an equal one in the other tree at its
+-- path or on the way; or out of memory
 abbrev pub IsChangesError : Objects → (ObjectId → Bool) → ℕ → ObjectId → ObjectId → ListError → Type 0
 IsChangesError objects may_fail depth from to (list.Directory path id cause) =
-    (LeadsToDirectory objects from (names_of path.items) id ⊎ LeadsToDirectory objects to (names_of path.items) id)
+    LeadsToUnequal objects from to (names_of path.items) id
     × IsUnreadError objects may_fail depth (names_of path.items) id cause
 IsChangesError objects may_fail depth from to list.OutOfMemory = ⊤
 
--- the path, which begins with the name of the entry, leads to a directory at or below the entry
-abbrev pub LeadsThroughEntry : Objects → Option EntryView → Path → ObjectId → Type 0
-LeadsThroughEntry objects None path id = ⊥
-LeadsThroughEntry objects (Some e) [] id = ⊥
-LeadsThroughEntry objects (Some e) (name ∷ path) id =
-    (e.name ≡ name) × IsDirectory e × LeadsToDirectory objects e.id path id
+-- the entry of a side, or none
+abbrev pub side_list : Option EntryView → List EntryView
+side_list None = []
+side_list (Some e) = e ∷ []
 
--- the error of a comparison of two entries: a directory at or below one of them isn't read; or out of memory
+-- the path, which begins with a name, leads from an entry of the pair to this directory, likewise
+abbrev pub LeadsFromPair : Objects → EntryPairView → Path → ObjectId → Type 0
+LeadsFromPair objects pair [] id = ⊥
+LeadsFromPair objects pair (name ∷ path) id =
+    LeadsFromEntries objects (λ x y. LeadsToUnequal objects x y path id) (side_list pair.0) (side_list pair.1) name path
+    id
+
+-- the error of a comparison of two entries: a directory at or below one of them isn't read, likewise; or out of memory
 abbrev pub IsChangesErrorAt : Objects → (ObjectId → Bool) → ℕ → EntryPairView → ListError → Type 0
 IsChangesErrorAt objects may_fail depth pair (list.Directory path id cause) =
-    (LeadsThroughEntry objects pair.0 (names_of path.items) id
-    ⊎ LeadsThroughEntry objects pair.1 (names_of path.items) id)
+    LeadsFromPair objects pair (names_of path.items) id
     × IsUnreadError objects may_fail (depth + 1) (names_of path.items) id cause
 IsChangesErrorAt objects may_fail depth pair list.OutOfMemory = ⊤
 

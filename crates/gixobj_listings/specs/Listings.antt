@@ -21,6 +21,11 @@ abbrev pub HasFilesOf : Objects → ℕ → ObjectId → List FileView → Type 
 HasFilesOf objects depth root files = OfTrees objects (λ trees. (T : Table) (n : ℕ) → AgreesWithStore T trees
     → depth ≤ n → SameFiles (Lists files) (NamedFiles T n root))
 
+-- the files are exactly those of a tree of these entries; likewise
+abbrev pub HasFilesOfEntries : Objects → ℕ → List EntryView → List FileView → Type 0
+HasFilesOfEntries objects depth entries files = OfTrees objects (λ trees. (T : Table) (n : ℕ) → AgreesWithStore T trees
+    → depth ≤ n → SameFiles (Lists files) (Files T n entries))
+
 -- the files are exactly those at and below the entry, by their paths from there; likewise
 abbrev pub HasFilesAt : Objects → ℕ → EntryView → List FileView → Type 0
 HasFilesAt objects depth e files = OfTrees objects (λ trees. (T : Table) (n : ℕ) → AgreesWithStore T trees

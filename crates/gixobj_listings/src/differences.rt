@@ -1,5 +1,5 @@
 //! The changes between the files of two stored trees (git-diff-tree, `-r`).
-ghost use Rattle.std.specs.Prelude.{◌≡◌, ◌∷◌, ◌++◌, [], IfErr, IfOk, IsFalse, IsTrue, None, OnOk, Some, map, true};
+ghost use Rattle.std.specs.Prelude.{◌≡◌, ◌≢◌, ◌∷◌, ◌++◌, [], IfErr, IfOk, IsFalse, IsTrue, None, OnErr, OnOk, Some, map, true};
 ghost use Rattle.std.specs.List.{AllByRecursion};
 ghost use Rattle.std.specs.Option.{option_copied};
 ghost use Rattle.bstr.specs.Owned.{bstring_bytes};
@@ -71,7 +71,7 @@ impl Model for Change {
 /// # Errors
 ///
 /// - [`ListError::Directory`] with a directory of one of the trees that isn't read: its tree isn't found or is
-///   invalid, or its path has `depth` names;
+///   invalid, or its path has `depth` names. The other tree has no equal directory there or on the way;
 /// - [`ListError::OutOfMemory`] if an allocation fails.
 pub fn changes<S: Find>(
     alloc: Global,
@@ -86,6 +86,7 @@ pub fn changes<S: Find>(
     ensures ordered { IfOk result (λ changes. AreChangesInOrder changes.items) }
     ensures error { IfErr result (IsChangesError (S.objects store.now) (S.may_fail store.now) depth
         from to) }
+    ensures differ { OnErr result (from ≢ to) }
 {
     if from == to {
         return Ok(Vec::new(alloc));

@@ -1,11 +1,13 @@
 //! A listing of the files of a stored tree, to every depth (git-ls-tree, `-r`).
-ghost use Rattle.std.specs.Prelude.{◌≡◌, ◌∷◌, ◌++◌, [], All, IfErr, IfOk, IsFalse, OnOk, map};
+ghost use Rattle.std.specs.Prelude.{◌≡◌, ◌∷◌, ◌++◌, [], All, IfErr, IfOk, IsFalse, List, OnOk, map};
 ghost use Rattle.std.specs.List.{AllByRecursion};
 ghost use Rattle.bstr.specs.Owned.{bstring_bytes};
 ghost use Rattle.gix_object.specs.Calls.{names_of};
+ghost use Rattle.gix_object.specs.Entries.{EntryView};
 ghost use Rattle.gix_object.specs.Files.{is_null};
 ghost use Rattle.gixobj_listings.specs.FileLists.{AreInOrder, IsBounded, with_first_name};
-ghost use Rattle.gixobj_listings.specs.Listings.{AreAllRead, AreReadBelow, HasFilesAt, HasFilesOf, IsAtEntry, IsErrorWithin, IsListError, IsListErrorAt, IsUnread};
+ghost use Rattle.gixobj_listings.specs.Roots.{IsRoot};
+ghost use Rattle.gixobj_listings.specs.Listings.{AreAllRead, AreReadBelow, HasFilesAt, HasFilesOf, HasFilesOfEntries, IsAtEntry, IsErrorWithin, IsListError, IsListErrorAt, IsUnread};
 
 use crate::roots::{RootError, root_in};
 use bstr::BString;
@@ -112,8 +114,8 @@ impl ListError {
 /// The root is looked up by its id; that of the empty tree is found in every store.
 ///
 /// The list has exactly the files of the tree, to every depth from `depth` on. This holds in each table that
-/// agrees with the store, if the root's id isn't null. Allocates a buffer and the entries of each tree, and the
-/// names of each path.
+/// agrees with the store, if the root's id isn't null. The files of a tree that the store names by a null id
+/// are those of its entries. Allocates a buffer and the entries of each tree, and the names of each path.
 ///
 /// # Errors
 ///
@@ -129,6 +131,9 @@ pub fn files_of<S: Find>(
 ) -> Result<Vec<File>, ListError>
     ensures files { IfOk result (λ files. IsFalse (is_null root)
         → HasFilesOf (S.objects store.now) depth root files.items) }
+    ensures entries { IfOk result (λ files. (entries : List EntryView)
+        → IsRoot (S.objects store.now) root entries
+        → HasFilesOfEntries (S.objects store.now) depth entries files.items) }
     ensures ordered { IfOk result (λ files. AreInOrder files.items) }
     ensures bounded { IfOk result (λ files. All (IsBounded depth) files.items) }
     ensures opened { OnOk result (AreAllRead (S.objects store.now) root) }

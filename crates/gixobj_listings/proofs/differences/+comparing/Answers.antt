@@ -1,12 +1,13 @@
 -- The changes of a pair of entries, of both sides of it, and of a comparison of two directories: the goals of
 -- `changes_at`, `changes_between` and `opened_changes`, which call each other.
-use Rattle.std.proofs.Common.{◌≡◌, ◌↔◌, ◌∙◌, ◌++◌, ◌+◌, ◌-◌, [], ◌∷◌, arith, map, subst, sym, true, false, Some}
+use Rattle.std.proofs.Common.{◌≡◌, ◌↔◌, ◌∙◌, ◌++◌, ◌+◌, ◌-◌, [], ◌∷◌, arith, ap, map, subst, sym, true, false, Some}
 use Rattle.std.specs.List.{AllByRecursion}
 use Rattle.std.specs.Option.{option_copied}
 use Rattle.bstr.specs.Owned.{bstring_bytes}
+use Rattle.gix_object.specs.Entries.{EntryView}
 use Rattle.gix_object.specs.Mode.{is_tree_mode}
 use Rattle.gix_object.specs.WellFormed.{IsEntryName}
-use Rattle.gixobj_listings.proofs.ChangesErrors.{changes_error_of_pair}
+use Rattle.gixobj_listings.proofs.ChangesErrors.{changes_error_inside, changes_error_of_left, changes_error_of_pair, changes_error_of_right}
 use Rattle.gixobj_listings.proofs.ChangesOfPairs.{StartsInPair}
 use Rattle.gixobj_listings.proofs.EntryPairs.{all_after_first_pair, order_after_first_pair}
 use Rattle.gixobj_listings.proofs.EntryTests.{is_tree_mode_of_test}
@@ -17,8 +18,9 @@ use Rattle.gixobj_listings.proofs.PairReturns.{added_at_pair, added_in_order, ch
 use Rattle.gixobj_listings.proofs.PairSteps.{left_of_rest, merges_of_nothing, merges_snoc, named_of_starts, right_of_rest, sides_of_first_pair}
 use Rattle.gixobj_listings.proofs.Rooted.{if_err_weaken, if_ok_weaken}
 use Rattle.gixobj_listings.proofs.StoreChanges.{has_changes_at_equal, has_changes_at_files, has_changes_of_roots}
+use Rattle.gixobj_listings.proofs.WholeMerges.{among_between, have_merge}
 use Rattle.gixobj_listings.specs.Changes.{AreChangesInOrder, ChangeView, IsChangeOfPairs, ListsChange, with_name_first}
-use Rattle.gixobj_listings.specs.Differences.{IsReadIfAlone, HasChangesAt, IsChangesError, pair_view}
+use Rattle.gixobj_listings.specs.Differences.{IsReadIfAlone, HasChangesAt, IsChangesError, IsChangesErrorAt, pair_view}
 use Rattle.gixobj_listings.specs.Roots.{IsRoot}
 use Rattle.gixobj_listings.proofs.differences.+comparing.Goals as goal
 
@@ -74,6 +76,35 @@ changes_at-returns-in-Some-Some-clause-changes g t c =
     if_ok_weaken c.changes_between.result _ _ c.changes_between.ensures.changes
     (λ changes are. changes_of_sides objects c.args.depth before after (Some c.in-Some-Some.before.now) (Some c.in-Some-Some.after.now) changes.items
     c.in-Some-Some.ensures c.in-Some-Some.ensures' are)
+
+pub changes_at-returns-in_err-files_at-in-None-Some-clause-error : goal.changes_at-returns-in_err-files_at-in-None-Some-clause-error
+changes_at-returns-in_err-files_at-in-None-Some-clause-error g t c =
+    let objects = g.S.Store.objects c.args.store.now in
+    let may_fail = g.S.Store.may_fail c.args.store.now in
+    if_err_weaken c.from_residual.result _ _ c.from_residual.ensures.1
+    (λ error is. subst (IsChangesErrorAt objects may_fail c.args.depth (pair_view c.args.pair)) (sym is)
+    (changes_error_of_right objects may_fail c.args.depth c.in-None-Some.after.now (option_copied c.args.pair.before) (option_copied c.args.pair.after)
+    c.in-None-Some.ensures c.in-None-Some.ensures' c.in_err-files_at-in-None-Some.field-0.0 c.in_err-files_at-in-None-Some.ensures.error))
+
+pub changes_at-returns-in_err-files_at-in-Some-None-clause-error : goal.changes_at-returns-in_err-files_at-in-Some-None-clause-error
+changes_at-returns-in_err-files_at-in-Some-None-clause-error g t c =
+    let objects = g.S.Store.objects c.args.store.now in
+    let may_fail = g.S.Store.may_fail c.args.store.now in
+    if_err_weaken c.from_residual-in_err-files_at-in-Some-None.result _ _ c.from_residual-in_err-files_at-in-Some-None.ensures.1
+    (λ error is. subst (IsChangesErrorAt objects may_fail c.args.depth (pair_view c.args.pair)) (sym is)
+    (changes_error_of_left objects may_fail c.args.depth c.in-Some-None.before.now (option_copied c.args.pair.before) (option_copied c.args.pair.after)
+    c.in-Some-None.ensures c.in-Some-None.ensures' c.in_err-files_at-in-Some-None.field-0.0 c.in_err-files_at-in-Some-None.ensures.error))
+
+pub changes_between-returns-in-Err-clause-error : goal.changes_between-returns-in-Err-clause-error
+changes_between-returns-in-Err-clause-error g t c =
+    let e = c.args.before.now in
+    let other = c.args.after.now in
+    let e_kind : is_tree_mode e.mode ≡ true = is_tree_mode_of_test _ _ _ _ c.before-2.view_is c.is_tree.ensures c.if-not-is_tree.false in
+    let other_kind : is_tree_mode other.mode ≡ true = sym c.requires.name.2 ∙ e_kind in
+    changes_error_inside (g.S.Store.objects c.args.store.now) (g.S.Store.may_fail c.args.store.now) c.args.depth _ e _ other c.before-2.view_is
+    c.after.view_is (e_kind, c.requires.filled.0) (other_kind, c.requires.filled.1) c.requires.name.1
+    (λ same. c.is_same_version.ensures.different c.if-is_same_version.false (ap (λ (y : EntryView). y.mode) same, ap (λ (y : EntryView). y.id) same))
+    c.in-Err.error c.within.result (c.in-Err.ensures {u = tt}).error c.within.ensures
 
 pub changes_between-returns-then-is_same_version-clause-changes : goal.changes_between-returns-then-is_same_version-clause-changes
 changes_between-returns-then-is_same_version-clause-changes g t c =
@@ -155,11 +186,17 @@ opened_changes-returns-in_err-below-clause-error g t c =
     let now = c.loop-pair.invariant in
     let some = c.if-depth-eq0.false in
     let depth : c.args.depth - 1 + 1 ≡ c.args.depth = omega arith in
-    let sides = sides_of_first_pair c.loop-pair.left.now c.loop-pair.right.now lefts rights pair first now.left_of now.right_of in
+    let left = c.loop-pair.left.now in
+    let right = c.loop-pair.right.now in
+    let sides = sides_of_first_pair left right lefts rights pair first now.left_of now.right_of in
+    let pairs = now.merged.0 in
+    let more = have_merge pair.left.now pair.right.now in
+    let whole = merges_snoc lefts rights left right pair first pairs now.merged.1 more.0 more.1 in
     if_err_weaken c.from_residual-in_err-below.result _ _ c.from_residual-in_err-below.ensures.1
     (λ error is. subst (IsChangesError objects may_fail c.args.depth c.args.from c.args.to) (sym is)
     (subst (λ n. IsChangesError objects may_fail n c.args.from c.args.to c.in_err-below.field-0.0) depth
-    (changes_error_of_pair objects may_fail (c.args.depth - 1) c.args.from c.args.to lefts rights from to (pair_view pair) sides.0 sides.1
+    (changes_error_of_pair objects may_fail (c.args.depth - 1) c.args.from c.args.to lefts rights from to ((pairs ++ pair_view pair ∷ []) ++ more.0) whole
+    (pair_view pair).0 (pair_view pair).1 (among_between pairs (pair_view pair) more.0) sides.0 sides.1
     c.in_err-below.field-0.0 c.in_err-below.ensures.error)))
 
 pub opened_changes-loop-pair-preserved : goal.opened_changes-loop-pair-preserved

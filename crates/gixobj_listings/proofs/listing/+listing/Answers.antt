@@ -9,8 +9,8 @@ use Rattle.gix_object.specs.Mode.{is_tree_mode}
 use Rattle.gixobj_listings.proofs.EntryTests.{entry_is_null_of_test, is_tree_mode_of_test}
 use Rattle.gixobj_listings.proofs.FileListings.{contains_entry_at, in_order_snoc, starts_snoc}
 use Rattle.gixobj_listings.proofs.Rooted.{if_err_weaken}
-use Rattle.gixobj_listings.proofs.StoreListings.{at_directory_of_bounded, has_files_at_null, has_files_before_next, has_files_inside_directory, has_files_of_root}
-use Rattle.gixobj_listings.proofs.Unread.{are_all_read_of_entries, list_error_inside_directory, list_error_of_entry, list_error_of_root, read_take_snoc}
+use Rattle.gixobj_listings.proofs.StoreListings.{at_directory_of_bounded, has_files_at_null, has_files_before_next, has_files_inside_directory, has_files_of_entries, has_files_of_root}
+use Rattle.gixobj_listings.proofs.Unread.{are_all_read_of_entries, is_root_unique, list_error_inside_directory, list_error_of_entry, list_error_of_root, read_take_snoc}
 use Rattle.gixobj_listings.specs.FileLists.{AreInOrder, with_first_name}
 use Rattle.gixobj_listings.specs.Listings.{IsListError}
 use Rattle.gixobj_listings.specs.Roots.{IsRoot}
@@ -109,6 +109,16 @@ files_of-returns-clause-files g t c =
     let same : items ≡ c.in-Ok.tree = c.deref-entry-items.ensures.value ∙ c.tree.view_is in
     let root : IsRoot objects c.args.root items = subst (IsRoot objects c.args.root) (sym same) (c.in-Ok.ensures {u = tt}).found in
     has_files_of_root c.id_equality_is_decidable.ensures objects c.args.depth c.args.root items c.loop-entry.entry-index c.loop-entry.files.items root
+    c.loop-entry-test.false c.loop-entry.invariant.files
+
+pub files_of-returns-clause-entries : goal.files_of-returns-clause-entries
+files_of-returns-clause-entries g t c =
+    let objects = g.S.Store.objects c.args.store.now in
+    let items = c.deref-entry-items.result.now in
+    let same : items ≡ c.in-Ok.tree = c.deref-entry-items.ensures.value ∙ c.tree.view_is in
+    let root : IsRoot objects c.args.root items = subst (IsRoot objects c.args.root) (sym same) (c.in-Ok.ensures {u = tt}).found in
+    λ entries is. has_files_of_entries objects c.args.depth items entries c.loop-entry.entry-index c.loop-entry.files.items
+    (is_root_unique objects c.id_equality_is_decidable.ensures c.tree_decodes_uniquely.ensures.one_tree c.args.root entries items is root)
     c.loop-entry-test.false c.loop-entry.invariant.files
 
 pub files_of-returns-clause-opened : goal.files_of-returns-clause-opened
