@@ -1,2 +1,3 @@
 mod Appended
 mod Findings
+mod Reported

@@ -1,9 +1,11 @@
 -- The commands that the arguments of the program name.
-use Rattle.std.specs.Prelude.{◌≡◌, ℕ, List, [], ◌∷◌, codes}
+use Rattle.std.specs.Prelude.{◌≡◌, ℕ, List, [], ◌∷◌, codes, ⊤}
 use Rattle.gix_object.specs.Hash.{DecodesToId, IsIdHex}
 use Rattle.gix_object.specs.hash.hash.object_id.ObjectId.{ObjectId}
 use Rattle.gixobj_cli_batch.specs.declared.arguments.Command.{Command}
 use Rattle.gixobj_cli_batch.specs.declared.arguments.Command.TheVariants as command
+use Rattle.gixobj_cli_batch.specs.declared.fault.Fault.{Fault}
+use Rattle.gixobj_cli_batch.specs.declared.fault.Fault.TheVariants as program
 
 -- the argument is the hex of this id
 abbrev pub IsIdArgument : List ℕ → ObjectId → Type 0
@@ -24,3 +26,9 @@ NamesCommand arguments (command.Diff from to) = (first second : List ℕ)
 -- the arguments are those of no command
 abbrev pub NamesNoCommand : List (List ℕ) → Type 0
 NamesNoCommand arguments = (named : Command) → ¬ NamesCommand arguments named
+
+-- the arguments aren't known: a read of them failed, or the allocation of their list
+abbrev pub IsArgumentsError : Fault → Type 0
+IsArgumentsError (program.Failed cause) = ⊤
+IsArgumentsError program.OutOfMemory = ⊤
+IsArgumentsError other = ⊥

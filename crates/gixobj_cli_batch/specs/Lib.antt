@@ -4,4 +4,5 @@ pub mod Checks
 pub mod Lines
 pub mod Objects
 pub mod Reports
+pub mod Runs
 pub mod Trees

@@ -1,7 +1,7 @@
 //! The command that the arguments of the program name.
-ghost use Rattle.std.specs.Prelude.{[], ◌∷◌, IfNone, IfSome, map};
+ghost use Rattle.std.specs.Prelude.{[], ◌∷◌, IfErr, IfNone, IfSome, map};
 ghost use Rattle.std.specs.String.{string_bytes};
-ghost use Rattle.gixobj_cli_batch.specs.Arguments.{IsIdArgument, NamesCommand, NamesNoCommand, NamesNoId};
+ghost use Rattle.gixobj_cli_batch.specs.Arguments.{IsArgumentsError, IsIdArgument, NamesCommand, NamesNoCommand, NamesNoId};
 
 use crate::fault::Fault;
 use gix_object::hash::ObjectId;
@@ -21,15 +21,18 @@ pub(crate) enum Command {
     Check,
 }
 
-/// Returns the command of the process. Fails with `Usage` if the arguments name none.
-pub(crate) fn process_command<R: Env + AllocGlobal>(rt: &R) -> Result<Command, Fault> {
+/// Returns the arguments of the process, those after its name. The list of arguments allocates.
+///
+/// # Errors
+///
+/// - [`Fault::Failed`] if a read of the arguments fails, for example if one isn't UTF-8;
+/// - [`Fault::OutOfMemory`] if the allocation of the list fails.
+pub(crate) fn process_arguments<R: Env + AllocGlobal>(rt: &R) -> Result<Vec<String>, Fault>
+    ensures { IfErr result IsArgumentsError }
+{
     let mut remaining = env::args(rt)?;
     let _ = remaining.next();
-    let arguments: Vec<String> = remaining.collect(rt.alloc())?;
-    match command_of(arguments.as_slice()) {
-        Some(command) => Ok(command),
-        None => Err(Fault::Usage),
-    }
+    Ok(remaining.collect(rt.alloc())?)
 }
 
 /// Returns the command that the arguments name, or `None`. An id is in hex, of either case.

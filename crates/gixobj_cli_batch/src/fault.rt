@@ -1,5 +1,6 @@
 //! The errors of the program, and its exit statuses.
 ghost use Rattle.std.specs.Prelude.{◌≡◌};
+ghost use Rattle.gixobj_cli_batch.specs.Runs.{fault_status};
 ghost use Rattle.gixobj_cli_batch.specs.declared.fault.Fault.TheVariants as program;
 
 use gix_object::OutOfMemory;
@@ -49,7 +50,9 @@ pub(crate) enum Fault {
 
 impl Fault {
     /// The exit status: 2 for invalid arguments, else 1.
-    pub(crate) fn status(&self) -> u8 {
+    pub(crate) fn status(&self) -> u8
+        ensures { result ≡ fault_status self.now }
+    {
         match self {
             Fault::Usage => 2,
             _ => 1,

@@ -13,11 +13,13 @@ mod arguments;
 mod check;
 mod checked;
 mod differences;
+mod engine;
 mod fault;
 mod files;
 mod history;
 mod input;
 mod lines;
+mod output;
 #[cfg(test)]
 mod recorded;
 mod report;
@@ -25,32 +27,20 @@ mod store;
 #[cfg(test)]
 mod tests;
 
-use arguments::process_command;
-use fault::Fault;
-use report::{Report, report_of};
-use std::io::Write;
+use arguments::process_arguments;
+use engine::{engine, report};
 use std::process::ExitCode;
 
 fn main(rt: HostRuntime) -> ExitCode {
-    match run(&rt) {
-        Ok(()) => ExitCode::SUCCESS,
-        Err(fault) => {
-            let _ = writeln!(rt.stderr(), "gixobj_cli_batch: {fault}");
-            ExitCode::from(fault.status())
-        }
-    }
-}
-
-/// Runs the command of the arguments on standard input, and writes its lines.
-fn run(rt: &HostRuntime) -> Result<(), Fault> {
-    let command = process_command(rt)?;
-    let bytes = input::read_all(rt.alloc(), &mut rt.reader())?;
-    let Report { lines, fault } = report_of(rt.alloc(), command, bytes.as_slice())?;
-    let mut output = rt.stdout();
-    output.write_all(lines.as_slice())?;
-    output.flush()?;
-    match fault {
-        None => Ok(()),
-        Some(fault) => Err(fault),
-    }
+    let mut errors = rt.stderr();
+    ExitCode::from(match process_arguments(&rt) {
+        Ok(arguments) => engine(
+            rt.alloc(),
+            arguments.as_slice(),
+            &mut rt.reader(),
+            &mut rt.stdout(),
+            &mut errors,
+        ),
+        Err(fault) => report(&fault, &mut errors),
+    })
 }

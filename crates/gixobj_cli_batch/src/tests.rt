@@ -1,10 +1,11 @@
 //! Commands on recorded histories, and on damaged input.
 
 use crate::arguments::Command;
+use crate::engine::engine;
 use crate::recorded::*;
 use crate::report::report_of;
 use gix_object::hash::ObjectId;
-use std::alloc::Global;
+use std::alloc::{AllocError, Global};
 
 /// The id of recorded hex.
 fn id(hex: &[u8]) -> ObjectId {
@@ -118,4 +119,57 @@ fn reports_where_input_is_damaged(rt: HostRuntime) {
     for (input, expected) in &DAMAGED {
         assert!(rt; fails_with(rt.alloc(), input, expected));
     }
+}
+
+/// What a run of the program writes, and its exit status.
+#[derive(Drop)]
+struct Ended {
+    status: u8,
+    output: Vec<u8>,
+    errors: Vec<u8>,
+}
+
+impl Ended {
+    /// Whether the run has this status and wrote these bytes.
+    fn is(&self, status: u8, output: &[u8], errors: &[u8]) -> bool {
+        self.status == status
+            && self.output.as_slice() == output
+            && self.errors.as_slice() == errors
+    }
+}
+
+/// Runs the program on arguments with spaces between them.
+fn run_on(alloc: Global, arguments: &str, input: &[u8]) -> Result<Ended, AllocError> {
+    let mut words = Vec::new(alloc);
+    for word in arguments.split(' ') {
+        words.push(String::from_str(alloc, word)?)?;
+    }
+    let (mut input, mut output, mut errors) = (input, Vec::new(alloc), Vec::new(alloc));
+    let status = engine(
+        alloc,
+        words.as_slice(),
+        &mut input,
+        &mut output,
+        &mut errors,
+    );
+    Ok(Ended {
+        status,
+        output,
+        errors,
+    })
+}
+
+const USAGE: &[u8] =
+    b"gixobj_cli_batch: usage: gixobj_cli_batch log ID | ls ID | diff ID ID | check\n";
+
+#[test]
+fn writes_lines_then_the_fault(rt: HostRuntime) {
+    let alloc = rt.alloc();
+    let clean = run_on(alloc, "check", SHA1_BATCH);
+    assert!(rt; matches!(&clean, Ok(it) if it.is(0, CLEAN, b"")));
+    let faulty = run_on(alloc, "check", FAULTY);
+    let line = b"gixobj_cli_batch: objects with faults\n".as_slice();
+    assert!(rt; matches!(&faulty, Ok(it) if it.is(1, FAULTS, line)));
+    let unknown = run_on(alloc, "check all", SHA1_BATCH);
+    assert!(rt; matches!(&unknown, Ok(it) if it.is(2, b"", USAGE)));
 }
