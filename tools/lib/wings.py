@@ -15,6 +15,7 @@ WINGS = (
         "gixobj_text gixobj_grammar gixobj_tree gixobj_tree_* gixobj_tag gixobj_commit gixobj_tokens gixobj_object "
         "gixobj_codec",
     ),
+    ("Fsck", "gixobj_fsck gixobj_fsck_*"),
     ("Signatures", "gixobj_signature gixobj_signature_*"),
     ("Stores", "gixobj_store gixobj_store_*"),
     ("Editor", "gixobj_editor gixobj_editor_*"),

@@ -1,0 +1,4 @@
+pub mod Bits
+pub mod First
+pub mod Numbers
+pub mod Worst

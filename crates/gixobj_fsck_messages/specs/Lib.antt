@@ -1,0 +1,4 @@
+pub mod Iterators
+pub mod Messages
+pub mod Sets
+pub mod Severities

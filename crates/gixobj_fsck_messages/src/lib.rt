@@ -1,0 +1,15 @@
+//! The messages of `git fsck` about one tree, commit or tag: their names, severities and sets of them.
+//!
+//! Messages about references, and about the content of `.gitmodules` and `.gitattributes`, aren't here (`git-fsck`,
+//! "FSCK MESSAGES").
+#![tactic(auto)]
+
+pub mod iter;
+pub mod message;
+pub mod set;
+pub mod severity;
+
+pub use iter::MessagesIter;
+pub use message::Message;
+pub use set::Messages;
+pub use severity::Severity;
