@@ -1,0 +1,7 @@
+pub mod CommitMessages
+pub mod CommitOutcomes
+pub mod MessageSets
+pub mod Numbers
+pub mod Outcomes
+pub mod Parts
+pub mod SpanParts

@@ -1,0 +1,38 @@
+-- Spans of parts of a input, and that a input has one span of a class.
+use Rattle.std.proofs.Common.{◌≡◌, ◌≢◌, ◌<◌, ℕ, true, List, [], ◌∷◌, ◌++◌, take, drop, length, get_or, drop-cons, refl, sym, subst, ◌∙◌}
+use Rattle.std.specs.List.{list_all}
+use Rattle.std.proofs.lemmas.Bool.{and_parts}
+use Rattle.std.proofs.lemmas.List.{append-nil, take-append-drop}
+use Rattle.gixobj_fsck.specs.Spans.{EndsSpan, IsSpan, is_of_class}
+use Rattle.gixobj_fsck.specs.declared.spans.Class.{Class}
+
+-- a byte that isn't of the class ends a span
+pub span_of_take : (class : Class) (input : List ℕ) (index : ℕ) → index < length input → list_all (is_of_class class) (take index input) ≡ true
+    → is_of_class class (get_or input index 0) ≢ true → IsSpan class input (take index input) (drop index input)
+span_of_take class input index within all other = record {
+  joined = sym (take-append-drop index input);
+  within = all;
+  ends = subst (EndsSpan class) (sym (drop-cons input index 0 within)) other;
+}
+
+-- the end of the input ends a span
+pub span_of_all : (class : Class) (input : List ℕ) → list_all (is_of_class class) input ≡ true → IsSpan class input input []
+span_of_all class input all = record { joined = sym (append-nil input); within = all; ends = tt }
+
+-- a input has one span of a class
+pub span_unique : (class : Class) (input a x b y : List ℕ) → IsSpan class input a x → IsSpan class input b y → (a ≡ b) × (x ≡ y)
+span_unique class input a x b y one other = go a b one.within other.within one.ends other.ends (sym one.joined ∙ other.joined)
+  where
+    go : (a b : List ℕ) → list_all (is_of_class class) a ≡ true → list_all (is_of_class class) b ≡ true → EndsSpan class x → EndsSpan class y
+        → a ++ x ≡ b ++ y → (a ≡ b) × (x ≡ y)
+    go [] [] all_a all_b ends_x ends_y same = (refl, same)
+    go [] (byte ∷ b) all_a all_b ends_x ends_y same =
+        absurd (subst (EndsSpan class) same ends_x (and_parts (is_of_class class byte) (list_all (is_of_class class) b) all_b).0)
+    go (byte ∷ a) [] all_a all_b ends_x ends_y same =
+        absurd (subst (EndsSpan class) (sym same) ends_y (and_parts (is_of_class class byte) (list_all (is_of_class class) a) all_a).0)
+    go (byte ∷ a) (other ∷ b) all_a all_b ends_x ends_y same =
+        let tails : a ++ x ≡ b ++ y = cc same in
+        let rest = go a b (and_parts (is_of_class class byte) (list_all (is_of_class class) a) all_a).1
+        (and_parts (is_of_class class other) (list_all (is_of_class class) b) all_b).1 ends_x ends_y tails in
+        let heads : byte ≡ other = cc same in
+        (cc (heads, rest.0), rest.1)

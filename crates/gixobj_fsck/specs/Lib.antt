@@ -1,0 +1,7 @@
+pub mod Actors
+pub mod Commits
+pub mod Dates
+pub mod Headers
+pub mod Lines
+pub mod Spans
+pub mod Steps
