@@ -1,0 +1,2 @@
+pub mod TagMessages
+pub mod TagOutcomes
