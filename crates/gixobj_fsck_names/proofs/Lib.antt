@@ -1,0 +1,3 @@
+mod Either
+mod HfsNames
+mod NamesByByte
