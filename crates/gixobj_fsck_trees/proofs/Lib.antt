@@ -1,0 +1,6 @@
+mod NamesSeen
+mod OctalNumbers
+mod RawEntryParts
+mod TreeLoops
+mod TreeReads
+mod UniqueReads

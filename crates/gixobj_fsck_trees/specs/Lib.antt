@@ -1,0 +1,10 @@
+pub mod EntryMessages
+pub mod RawEntries
+pub mod RawViews
+pub mod TreeMessages
+pub use Rattle.gixobj_fsck_messages.specs.Messages
+pub use Rattle.gixobj_fsck_messages.specs.Sets
+pub use Rattle.gixobj_fsck_names.specs.DotFiles
+pub use Rattle.gixobj_fsck_names.specs.DotGit
+pub use Rattle.gixobj_hash.specs.Runs
+pub use Rattle.gixobj_tree_entries.specs.KeyOrder

@@ -1,0 +1,80 @@
+//! The entries of a tree as `git fsck` reads them.
+ghost use Rattle.std.specs.Prelude.{◌≡◌, ◌≢◌, ◌↔◌, ◌<◌, ◌^◌, ◌%◌, IfNone, IfSome, IsTrue, List, length};
+ghost use Rattle.std.specs.Str.Parse.{AllDigits, IsNumeral, digits_value};
+ghost use Rattle.gixobj_fsck_trees.specs.RawViews.{raw_entry_view};
+ghost use Rattle.gixobj_fsck_trees.specs.RawEntries.{BeginsWithNoRawEntry, BeginsWithRawEntry};
+
+use gixobj_hash::hash::Kind;
+use gixobj_hash::split::split_at_byte;
+
+/// An entry: the number of its mode in 16 bits, the first digit of the mode, its name, and the bytes of its id.
+#[derive(Clone, Copy)]
+pub(crate) struct RawEntry<'a> {
+    pub(crate) mode: u16,
+    pub(crate) first_digit: u8,
+    pub(crate) name: &'a [u8],
+    pub(crate) id: &'a [u8],
+}
+
+/// Decodes the entry at the beginning of the input, and returns it and the rest, or `None` if there is none.
+pub(crate) fn decode_raw_entry(input: &[u8], hash_kind: Kind) -> Option<(RawEntry<'_>, &[u8])>
+    ensures found { IfSome result (λ it.
+        BeginsWithRawEntry hash_kind input.now (raw_entry_view it.0) it.1.now) }
+    ensures none { IfNone result (BeginsWithNoRawEntry hash_kind input.now) }
+    ensures shorter { IfSome result (λ it. length it.1.now < length input.now) }
+{
+    let Some((digits, from_name)) = split_at_byte(input, b' ') else {
+        return None;
+    };
+    if !is_octal_numeral(digits) {
+        return None;
+    }
+    let Some((name, from_id)) = split_at_byte(from_name, 0) else {
+        return None;
+    };
+    let len = hash_kind.len_in_bytes();
+    if name.is_empty() {
+        return None;
+    }
+    if from_id.len() < len {
+        return None;
+    }
+    let (id, rest) = from_id.split_at(len);
+    let mode = octal_number(digits);
+    let first_digit = digits[0];
+    Some((
+        RawEntry {
+            mode,
+            first_digit,
+            name,
+            id,
+        },
+        rest,
+    ))
+}
+
+/// Returns whether the bytes are octal digits, at least one.
+fn is_octal_numeral(digits: &[u8]) -> bool
+    ensures { IsTrue result ↔ IsNumeral 8 digits.now }
+{
+    !digits.is_empty() && are_octal(digits)
+}
+
+/// Returns whether all bytes are octal digits.
+fn are_octal(digits: &[u8]) -> bool
+    ensures { IsTrue result ↔ AllDigits 8 digits.now }
+{
+    digits.iter().all(|digit| matches!(*digit, b'0'..=b'7'))
+}
+
+/// Decodes octal digits as a number, modulo 65536.
+fn octal_number(digits: &[u8]) -> u16
+    requires { AllDigits 8 digits.now }
+    ensures { result ≡ digits_value 8 digits.now % 2 ^ 16 }
+{
+    let mut number = 0u32;
+    for digit in digits {
+        number = (number * 8 + u32::from(*digit - b'0')) % 65536;
+    }
+    number as u16
+}
