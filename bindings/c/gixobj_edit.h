@@ -40,15 +40,17 @@ enum gixobj_edit_status {
  * NOT_FOUND: trees are missing. id has their ids, one after another, and *id_len is their length in bytes. A command
  * that fails changes no file, and those after it are run: each names the first tree that it lacks. So an id may come
  * more than once, or be that of a tree that a later line makes needless. Add their frames to the trees, and call again.
- * There are at most as many such answers as the deepest path has names. id has room enough with an id for each line.
- * LOSSY_TREE: id has the id of a tree that is looked up. Writing would change it: a mode of 140755 is written as 040755.
- * If no such tree is looked up, it is the id of a new tree, and *number is that of the last write.
+ * There are at most as many such answers as the deepest path has directories, the root included. id has room enough
+ * with an id for each line.
+ * LOSSY_TREE: id has the id of a tree that is looked up. Writing would change it: `gixobj edit` writes a mode of 140755
+ * as 040755. If no such tree is looked up, it is the id of a new tree, and *number is that of the last write.
  * BAD_LINE: *number is that of the line, from 1.
  * INVALID_NAME, IS_DIRECTORY, MALFORMED_TREE, LOSSY_TREE, NOT_ENCODABLE (a name with a zero byte), NOT_FOUND: *number
  * is that of the first command that fails, from 1, without empty lines. That of the last write is one more than the
  * number of commands, and that of the root 0.
  * MALFORMED: the trees are no frames, or the root has not the length of an id; *number is 0.
- * OUT_OF_MEMORY. UNKNOWN_CODE: all is unchanged. Allocates.
+ * OUT_OF_MEMORY: *number is 0, or that of the first command that fails, or of the last write.
+ * UNKNOWN_CODE: all is unchanged. Allocates.
  * Of several faults the first counts: the trees are no frames, there is no root, a line is bad, a command fails.
  * Of trees, root, script, out and id, what has length 0 may be NULL. */
 uint32_t gixobj_edit(uint8_t hash, const uint8_t *trees, size_t trees_len, const uint8_t *root, size_t root_len,

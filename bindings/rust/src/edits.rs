@@ -82,8 +82,8 @@ pub fn edit(
     run(hash, &frames(trees), root, script)
 }
 
-/// As [`edit`], with trees that `find` looks up by their ids, each once. The library is called at most once more
-/// than the deepest path has names.
+/// As [`edit`], with trees that `find` looks up by their ids, each once. A call of the library names all that the
+/// script lacks at the next level of its paths.
 ///
 /// # Errors
 ///

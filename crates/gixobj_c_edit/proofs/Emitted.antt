@@ -12,7 +12,7 @@ use Rattle.gixobj_editor_write.specs.declared.write.Written.{Written}
 use Rattle.gixobj_c_edit.specs.Edits.{HasRun, IsCommandsOf, HasOwnId, IsEditError, IsEmitted, IsRepliesError, IsScriptFailure, IsStart, IsStartError}
 use Rattle.gixobj_c_edit.specs.Failures.{given_failure}
 use Rattle.gixobj_c_edit.specs.Frames.{HoldsFrames, encode_frame}
-use Rattle.gixobj_c_edit.specs.Lossy.{ReadsBack}
+use Rattle.gixobj_c_edit.specs.Lossy.{IsLossless}
 use Rattle.gixobj_c_edit.specs.declared.frames.Given.{Given}
 use Rattle.gixobj_c_edit.specs.Replies.{AreDone, EndsInWrite, IsReplyToWrite, written_id}
 use Rattle.gixobj_c_edit.specs.Roots.{IsRootError}
@@ -104,15 +104,15 @@ last_id_is_written all got last id ends done same is found =
 
 pub is_emitted : (hash : Kind) (all before : List (Reply Error)) (written : Written) (frames : List ℕ) (id : ObjectId)
     → all ≡ before ++ reply.Edit (edit_reply.Written written) ∷ [] → id ≡ written.id → AreDone all
-    → frames ≡ flat_map encode_frame (emitted_pairs all) → All (λ pair. ReadsBack hash pair.1) (emitted_pairs all)
+    → frames ≡ flat_map encode_frame (emitted_pairs all) → All (λ pair. IsLossless hash pair.1) (emitted_pairs all)
     → IsEmitted hash all frames (id_bytes id)
-is_emitted hash all before written frames id joined same done framed read_back = record {
+is_emitted hash all before written frames id joined same done framed lossless = record {
   replies = before;
   written = written;
   joined = joined;
   done = done_before_last all before (reply.Edit (edit_reply.Written written)) joined done;
   framed = framed;
-  read_back = read_back;
+  lossless = lossless;
   named = ap id_bytes same;
 }
 
@@ -156,7 +156,7 @@ pub edit_error_of_script : (hash : Kind) (trees root script : List ℕ) (lossy :
 edit_error_of_script hash trees root script lossy state it number ids start error = inr (inl (lossy, state, start, error))
 
 pub edit_error_of_memory : (hash : Kind) (trees root script : List ℕ) (lossy : Objects) (state : State Memory) (all : List Command) (it : Failure) (number : ℕ)
-    (ids : List ℕ) → IsCommandsOf hash script all → IsStart hash trees root lossy state → it ≡ failure.OutOfMemory
+    (ids : List ℕ) → IsCommandsOf hash script all → IsStart hash trees root lossy state → (it ≡ failure.OutOfMemory) × (number ≡ 0)
     → IsEditError hash trees root script it number ids
-edit_error_of_memory hash trees root script lossy state all it number ids (commands, joined, decodes) start memory =
-    edit_error_of_script hash trees root script lossy state it number ids start (inr (memory, inr (map command_view commands, decodes)))
+edit_error_of_memory hash trees root script lossy state all it number ids (commands, joined, decodes) start (memory, zero) =
+    edit_error_of_script hash trees root script lossy state it number ids start (inr (memory, zero, inr (map command_view commands, decodes)))

@@ -8,7 +8,7 @@ use Rattle.std.specs.List.{flat_map}
 use Rattle.std.specs.Prelude.{Err, IfErr, IsErrAnd, Ok, Result}
 use Rattle.gixobj_c_edit.specs.Edits.{IsLossyEmitted}
 use Rattle.gixobj_c_edit.specs.Frames.{IsFrameError, IsFramesEncodeError, encode_frame}
-use Rattle.gixobj_c_edit.specs.Lossy.{ReadsBack}
+use Rattle.gixobj_c_edit.specs.Lossy.{IsLossless}
 use Rattle.gixobj_c_edit.specs.declared.failure.Failure.{Failure}
 use Rattle.gixobj_c_edit.specs.declared.failure.Failure.TheVariants as failure
 use Rattle.gixobj_c_edit.proofs.EditRuns.{IsEncodable}
@@ -47,10 +47,10 @@ module _ {X : Type 0} (f : X → List Pair) (xs : List X) (i : ℕ) where
         ∙ append_assoc start (flat_map encode_frame (flat_map f (take i xs))) (flat_map encode_frame (f x))
         ∙ ap (λ (bytes : List ℕ). start ++ bytes) (sym all)
 
-    pub read_back_snoc : (hash : Kind) → All (λ pair. ReadsBack hash pair.1) (flat_map f (take i xs)) → All (λ pair. ReadsBack hash pair.1) (f x)
-        → All (λ pair. ReadsBack hash pair.1) (flat_map f (take (i + 1) xs))
-    read_back_snoc hash before own = subst (All (λ (pair : Pair). ReadsBack hash pair.1)) (sym pairs_snoc)
-        (All-append (λ (pair : Pair). ReadsBack hash pair.1) (flat_map f (take i xs)) (f x) before own)
+    pub lossless_snoc : (hash : Kind) → All (λ pair. IsLossless hash pair.1) (flat_map f (take i xs)) → All (λ pair. IsLossless hash pair.1) (f x)
+        → All (λ pair. IsLossless hash pair.1) (flat_map f (take (i + 1) xs))
+    lossless_snoc hash before own = subst (All (λ (pair : Pair). IsLossless hash pair.1)) (sym pairs_snoc)
+        (All-append (λ (pair : Pair). IsLossless hash pair.1) (flat_map f (take i xs)) (f x) before own)
 
     pub frames_error_at : (hash : Kind) (it : Failure) → IsFramesEncodeError hash (f x) it → IsFramesEncodeError hash (flat_map f xs) it
     frames_error_at hash it error = (error.0, contains_flat_map f xs i x error.0 within is error.1, error.2)
@@ -59,10 +59,10 @@ module _ {X : Type 0} (f : X → List Pair) (xs : List X) (i : ℕ) where
       → new ≡ start ++ flat_map encode_frame (flat_map f xs)
   frames_all start new all is = is ∙ ap (λ (them : List X). start ++ flat_map encode_frame (flat_map f them)) (take_all i xs all)
 
-  pub read_back_all : (hash : Kind) → length xs ≤ i → All (λ pair. ReadsBack hash pair.1) (flat_map f (take i xs))
-      → All (λ pair. ReadsBack hash pair.1) (flat_map f xs)
-  read_back_all hash all each =
-      subst (λ (them : List X). All (λ (pair : Pair). ReadsBack hash pair.1) (flat_map f them)) (take_all i xs all) each
+  pub lossless_all : (hash : Kind) → length xs ≤ i → All (λ pair. IsLossless hash pair.1) (flat_map f (take i xs))
+      → All (λ pair. IsLossless hash pair.1) (flat_map f xs)
+  lossless_all hash all each =
+      subst (λ (them : List X). All (λ (pair : Pair). IsLossless hash pair.1) (flat_map f them)) (take_all i xs all) each
 
 -- ---- trees
 
@@ -79,9 +79,9 @@ module _ (hash : Kind) (xs : List Pair) (i : ℕ) (x : Pair) (within : i < lengt
       ∙ append_assoc start (flat_map encode_frame (take i xs)) (encode_frame x)
       ∙ ap (λ (bytes : List ℕ). start ++ bytes) (sym all)
 
-  pub trees_read_back_snoc : All (λ pair. ReadsBack hash pair.1) (take i xs) → ReadsBack hash x.1 → All (λ pair. ReadsBack hash pair.1) (take (i + 1) xs)
-  trees_read_back_snoc before own =
-      let P : Pair → Type 0 = λ pair. ReadsBack hash pair.1 in
+  pub lossless_trees_snoc : All (λ pair. IsLossless hash pair.1) (take i xs) → IsLossless hash x.1 → All (λ pair. IsLossless hash pair.1) (take (i + 1) xs)
+  lossless_trees_snoc before own =
+      let P : Pair → Type 0 = λ pair. IsLossless hash pair.1 in
       subst (All P) (sym trees_longer) (All-append P (take i xs) (x ∷ []) before (All-cons P x [] own (All-nil P)))
 
   pub tree_error_at : (it : Failure) → IsFrameError hash x it → IsFramesEncodeError hash xs it

@@ -4,7 +4,7 @@ use Rattle.std.proofs.lemmas.Bool.{eqb-true}
 use Rattle.std.proofs.lemmas.List.{length-drop, length-take-le}
 use Rattle.std.specs.FinMap as map
 use Rattle.std.specs.Prelude.{Err, None, Ok, Option, Result, Some}
-use Rattle.gixobj_c_edit.specs.Frames.{AreFrames, AreNoFrames, BeginsWithFrame, HoldsFrames, IsInserted, NextFrame, Parts, lossy_tree, objects_of, stored_tree, whole_tree, with_contents}
+use Rattle.gixobj_c_edit.specs.Frames.{AreFrames, AreNoFrames, BeginsWithFrame, HoldsFrames, IsInserted, NextFrame, Parts, lossy_tree, objects_of, stored_tree, other_tree, with_contents}
 use Rattle.gixobj_c_edit.specs.declared.frames.Given.{Given}
 use Rattle.gixobj_hash.proofs.Runs.{begins_with_pieces_snoc, yields_of_begins_with_pieces}
 use Rattle.gixobj_hash.specs.Runs.{HasNoPiece, BeginsWithPieces, Yields, broken, complete, yields_end, yields_error}
@@ -99,38 +99,38 @@ module _ (bytes rest : List ℕ) (contents : List (List ℕ)) (begins_with : Beg
 
 -- the trees of the frames so far, those that aren't lossy, and those that are
 abbrev pub FramesSoFar : hash.Kind → List ℕ → List ℕ → Given → Type 0
-FramesSoFar hash bytes rest given = (contents : List (List ℕ)) × (whole : List (List ℕ)) × (lossy : List (List ℕ))
-    × BeginsWithPieces NextFrame tt bytes contents tt rest × Parts hash contents whole lossy
-    × (memory_objects given.trees ≡ objects_of hash whole) × (memory_objects given.lossy ≡ objects_of hash lossy)
+FramesSoFar hash bytes rest given = (contents : List (List ℕ)) × (others : List (List ℕ)) × (lossy : List (List ℕ))
+    × BeginsWithPieces NextFrame tt bytes contents tt rest × Parts hash contents others lossy
+    × (memory_objects given.trees ≡ objects_of hash others) × (memory_objects given.lossy ≡ objects_of hash lossy)
 
 pub frames_inserted : (hash : hash.Kind) (bytes rest content after : List ℕ) (old new : Given) → FramesSoFar hash bytes rest old
     → BeginsWithFrame rest content after → IsInserted hash content old new → FramesSoFar hash bytes after new
-frames_inserted hash bytes rest content after old new (contents, whole, lossy, begins, parts, trees, others) is (inl (not_lossy, inserted, same)) = (
+frames_inserted hash bytes rest content after old new (contents, others, lossy, begins, parts, trees, apart) is (inl (not_lossy, inserted, same)) = (
   contents ++ content ∷ [],
-  whole ++ content ∷ [],
+  others ++ content ∷ [],
   lossy,
   frames_snoc bytes rest contents begins content after is,
-  whole_tree contents whole lossy content parts not_lossy,
-  objects_snoc hash whole content (memory_objects old.trees) (memory_objects new.trees) inserted trees,
-  same ∙ others,
+  other_tree contents others lossy content parts not_lossy,
+  objects_snoc hash others content (memory_objects old.trees) (memory_objects new.trees) inserted trees,
+  same ∙ apart,
 )
-frames_inserted hash bytes rest content after old new (contents, whole, lossy, begins, parts, trees, others) is (inr (is_lossy, inserted, same)) = (
+frames_inserted hash bytes rest content after old new (contents, others, lossy, begins, parts, trees, apart) is (inr (is_lossy, inserted, same)) = (
   contents ++ content ∷ [],
-  whole,
+  others,
   lossy ++ content ∷ [],
   frames_snoc bytes rest contents begins content after is,
-  lossy_tree contents whole lossy content parts is_lossy,
+  lossy_tree contents others lossy content parts is_lossy,
   same ∙ trees,
-  objects_snoc hash lossy content (memory_objects old.lossy) (memory_objects new.lossy) inserted others,
+  objects_snoc hash lossy content (memory_objects old.lossy) (memory_objects new.lossy) inserted apart,
 )
 
 pub frames_held : (hash : hash.Kind) (bytes rest : List ℕ) (given : Given) → FramesSoFar hash bytes rest given → rest ≡ [] → HoldsFrames hash bytes given
-frames_held hash bytes rest given (contents, whole, lossy, begins, parts, trees, others) none = record {
+frames_held hash bytes rest given (contents, others, lossy, begins, parts, trees, apart) none = record {
   contents = contents;
-  whole_contents = whole;
+  other_contents = others;
   lossy_contents = lossy;
   frames = frames_end bytes rest contents begins none;
   parts = parts;
-  whole_are = trees;
-  lossy_are = others;
+  others_are = trees;
+  lossy_are = apart;
 }

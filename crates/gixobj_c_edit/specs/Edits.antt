@@ -6,7 +6,7 @@ use Rattle.gixobj_c_codes.specs.Codes.{buffer_too_short, unknown_code}
 use Rattle.gixobj_editor_write.specs.declared.write.Written.{Written}
 use Rattle.gixobj_c_edit.specs.Failures.{failure_status, given_failure, own_id}
 use Rattle.gixobj_c_edit.specs.Frames.{AreTreesOfFrames, IsFramesError, encode_frame}
-use Rattle.gixobj_c_edit.specs.Lossy.{ReadsBack}
+use Rattle.gixobj_c_edit.specs.Lossy.{IsLossless}
 use Rattle.gixobj_c_edit.specs.Replies.{AreDone, IsFirstFailure, failure_ids}
 use Rattle.gixobj_c_edit.specs.Roots.{IsRootError, IsRootOf}
 use Rattle.gixobj_c_edit.specs.declared.failure.Failure.{Failure}
@@ -117,7 +117,7 @@ pub record IsEmitted (hash : Kind) (all : List (Reply Error)) (frames id : List 
   pub joined : all ≡ replies ++ reply.Edit (edit_reply.Written written) ∷ []
   pub done : AreDone replies
   pub framed : frames ≡ flat_map encode_frame (emitted_pairs all)
-  pub read_back : All (λ pair. ReadsBack hash pair.1) (emitted_pairs all)
+  pub lossless : All (λ pair. IsLossless hash pair.1) (emitted_pairs all)
   pub named : id ≡ id_bytes written.id
 
 -- the run's commands are done, and it emitted these trees. The last root has exactly the files that the script's
@@ -141,11 +141,11 @@ pub record IsEdited (hash : Kind) (trees root script frames id : List ℕ) : Typ
 abbrev pub AreEncodableIfDone : List (Reply Error) → Type 0
 AreEncodableIfDone all = AreDone all → All (λ pair. IsEncodableTree pair.1) (emitted_pairs all)
 
--- why a script has no commands: its first bad line; or out of memory, for a command before any bad line, or if no line
--- is bad
+-- why a script has no commands: its first bad line; or out of memory, with number 0, for a command before any bad line,
+-- or if no line is bad
 abbrev pub IsScriptFailure : Kind → List ℕ → Failure → ℕ → Type 0
 IsScriptFailure hash script it number = ((it ≡ failure.BadLine) × IsFirstBad hash script number)
-    ⊎ ((it ≡ failure.OutOfMemory) × IsScriptRunError hash script parsing.OutOfMemory)
+    ⊎ ((it ≡ failure.OutOfMemory) × (number ≡ 0) × IsScriptRunError hash script parsing.OutOfMemory)
 
 -- the failure has the id in it; or out of memory for this id
 abbrev pub HasOwnId : Failure → Failure → List ℕ → Type 0
@@ -170,7 +170,7 @@ IsFailedAt lossy all first it ids =
 
 -- the encoding of an emitted tree with this id doesn't decode to it
 abbrev pub IsLossyEmitted : Kind → List (Reply Error) → Failure → Type 0
-IsLossyEmitted hash all it = (pair : Pair) × Contains (emitted_pairs all) pair × (¬ ReadsBack hash pair.1)
+IsLossyEmitted hash all it = (pair : Pair) × Contains (emitted_pairs all) pair × (¬ IsLossless hash pair.1)
     × (it ≡ failure.LossyTree pair.0)
 
 -- why the replies have no new trees: the first command that failed, by its number from 1, where the write after them

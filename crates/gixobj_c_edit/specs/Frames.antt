@@ -2,7 +2,7 @@
 -- format"). The digest of a frame is the id of its tree.
 use Rattle.std.specs.Prelude.{◌≡◌, ◌⊎◌, ◌++◌, ℕ, Contains, List, [], ◌∷◌, drop, length, ⊤}
 use Rattle.std.specs.FinMap as map
-use Rattle.gixobj_c_edit.specs.Lossy.{DecodesToLossyTree, DecodesToNoLossyTree, ReadsBack}
+use Rattle.gixobj_c_edit.specs.Lossy.{DecodesToLossyTree, DecodesToNoLossyTree, IsLossless}
 use Rattle.gixobj_c_edit.specs.declared.failure.Failure.{Failure}
 use Rattle.gixobj_c_edit.specs.declared.failure.Failure.TheVariants as failure
 use Rattle.gixobj_c_edit.specs.declared.frames.Given.{Given}
@@ -50,20 +50,20 @@ objects_of hash contents = with_contents hash contents map.empty
 -- trees in order, those of them that aren't lossy, and those that are
 pub data Parts (hash : hash.Kind) : List (List ℕ) → List (List ℕ) → List (List ℕ) → Type 0 where
   no_tree : Parts hash [] [] []
-  whole_tree : (contents whole lossy : List (List ℕ)) (content : List ℕ) → Parts hash contents whole lossy
-      → DecodesToNoLossyTree hash content → Parts hash (contents ++ content ∷ []) (whole ++ content ∷ []) lossy
-  lossy_tree : (contents whole lossy : List (List ℕ)) (content : List ℕ) → Parts hash contents whole lossy
-      → DecodesToLossyTree hash content → Parts hash (contents ++ content ∷ []) whole (lossy ++ content ∷ [])
+  other_tree : (contents others lossy : List (List ℕ)) (content : List ℕ) → Parts hash contents others lossy
+      → DecodesToNoLossyTree hash content → Parts hash (contents ++ content ∷ []) (others ++ content ∷ []) lossy
+  lossy_tree : (contents others lossy : List (List ℕ)) (content : List ℕ) → Parts hash contents others lossy
+      → DecodesToLossyTree hash content → Parts hash (contents ++ content ∷ []) others (lossy ++ content ∷ [])
 
 -- the bytes are frames; the first objects are their trees that aren't lossy, each under its id, and no other object;
 -- the second objects are the lossy ones
 pub record AreTreesOfFrames (hash : hash.Kind) (bytes : List ℕ) (objects lossy : Objects) : Type 0 where
   pub contents : List (List ℕ)
-  pub whole_contents : List (List ℕ)
+  pub other_contents : List (List ℕ)
   pub lossy_contents : List (List ℕ)
   pub frames : AreFrames bytes contents
-  pub parts : Parts hash contents whole_contents lossy_contents
-  pub whole_are : objects ≡ objects_of hash whole_contents
+  pub parts : Parts hash contents other_contents lossy_contents
+  pub others_are : objects ≡ objects_of hash other_contents
   pub lossy_are : lossy ≡ objects_of hash lossy_contents
 
 -- the stores have the trees of the frames
@@ -112,7 +112,7 @@ encode_frame pair = encode_tree_frame pair.1
 -- or out of memory
 abbrev pub IsFrameError : hash.Kind → Pair → Failure → Type 0
 IsFrameError hash pair failure.NotEncodable = IsUnencodableTree pair.1
-IsFrameError hash pair (failure.LossyTree id) = (id ≡ pair.0) × (¬ ReadsBack hash pair.1)
+IsFrameError hash pair (failure.LossyTree id) = (id ≡ pair.0) × (¬ IsLossless hash pair.1)
 IsFrameError hash pair failure.OutOfMemory = ⊤
 IsFrameError hash pair _ = ⊥
 

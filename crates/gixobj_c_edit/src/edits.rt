@@ -216,7 +216,7 @@ fn replies_of(
 ) -> Result<Vec<Reply<encode::Error>>, Failed>
     ensures ran { IfOk result (λ replies. HasRun hash editor commands.items replies.items) }
     ensures files { IfOk result (λ replies. HasFilesOfWrites editor commands.items replies.items) }
-    ensures error { IfErr result (λ it. it.failure ≡ failure.OutOfMemory) }
+    ensures error { IfErr result (λ it. (it.failure ≡ failure.OutOfMemory) × (it.number ≡ 0)) }
 {
     let mut editor = editor;
     match run(

@@ -2,7 +2,7 @@
 ghost use Rattle.std.specs.Prelude.{◌≡◌, ◌++◌, ℕ, All, IfErr, IfNone, IfOk, IfSome, OnOk, Some};
 ghost use Rattle.std.specs.List.{flat_map};
 ghost use Rattle.gixobj_c_edit.specs.Frames.{BeginsWithFrame, NextFrame, HoldsFrames, IsFrameError, IsFramesEncodeError, IsFramesError, IsInserted, encode_frame, encode_tree_frame};
-ghost use Rattle.gixobj_c_edit.specs.Lossy.{ReadsBack};
+ghost use Rattle.gixobj_c_edit.specs.Lossy.{IsLossless};
 ghost use Rattle.gixobj_c_edit.specs.declared.failure.Failure.TheVariants as failure;
 ghost use Rattle.gixobj_editor.specs.Commands.{emitted_pairs, pairs_of, pairs_of_edit};
 ghost use Rattle.gixobj_hash.specs.Runs.{HasNoPiece};
@@ -125,7 +125,7 @@ pub fn frames_of(
 ) -> Result<Vec<u8>, Failure>
     ensures found { IfOk result (λ it. it.items
         ≡ flat_map encode_frame (emitted_pairs replies.now)) }
-    ensures read_back { IfOk result (λ _. All (λ pair. ReadsBack hash pair.1)
+    ensures lossless { IfOk result (λ _. All (λ pair. IsLossless hash pair.1)
         (emitted_pairs replies.now)) }
     ensures error { IfErr result (IsFramesEncodeError hash (emitted_pairs replies.now)) }
 {
@@ -145,7 +145,7 @@ fn append_reply(
 ) -> Result<(), Failure>
     ensures appended { OnOk result (frames.new.items
         ≡ frames.old.items ++ flat_map encode_frame (pairs_of reply.now)) }
-    ensures read_back { OnOk result (All (λ pair. ReadsBack hash pair.1) (pairs_of reply.now)) }
+    ensures lossless { OnOk result (All (λ pair. IsLossless hash pair.1) (pairs_of reply.now)) }
     ensures error { IfErr result (IsFramesEncodeError hash (pairs_of reply.now)) }
 {
     match reply {
@@ -164,7 +164,7 @@ fn append_each(
 ) -> Result<(), Failure>
     ensures appended { OnOk result (frames.new.items
         ≡ frames.old.items ++ flat_map encode_frame (flat_map pairs_of_edit replies.now)) }
-    ensures read_back { OnOk result (All (λ pair. ReadsBack hash pair.1) (flat_map pairs_of_edit replies.now)) }
+    ensures lossless { OnOk result (All (λ pair. IsLossless hash pair.1) (flat_map pairs_of_edit replies.now)) }
     ensures error { IfErr result (IsFramesEncodeError hash (flat_map pairs_of_edit replies.now)) }
 {
     for reply in replies {
@@ -182,7 +182,7 @@ fn append_written(
 ) -> Result<(), Failure>
     ensures appended { OnOk result (frames.new.items
         ≡ frames.old.items ++ flat_map encode_frame (pairs_of_edit reply.now)) }
-    ensures read_back { OnOk result (All (λ pair. ReadsBack hash pair.1) (pairs_of_edit reply.now)) }
+    ensures lossless { OnOk result (All (λ pair. IsLossless hash pair.1) (pairs_of_edit reply.now)) }
     ensures error { IfErr result (IsFramesEncodeError hash (pairs_of_edit reply.now)) }
 {
     match reply {
@@ -202,7 +202,7 @@ fn append_trees(
 ) -> Result<(), Failure>
     ensures appended { OnOk result (frames.new.items ≡ frames.old.items
         ++ flat_map encode_frame trees.now) }
-    ensures read_back { OnOk result (All (λ pair. ReadsBack hash pair.1) trees.now) }
+    ensures lossless { OnOk result (All (λ pair. IsLossless hash pair.1) trees.now) }
     ensures error { IfErr result (IsFramesEncodeError hash trees.now) }
 {
     for (id, tree) in trees {
@@ -221,7 +221,7 @@ fn append_frame(
 ) -> Result<(), Failure>
     ensures appended { OnOk result (frames.new.items ≡ frames.old.items
         ++ encode_tree_frame tree.now) }
-    ensures read_back { OnOk result (ReadsBack hash tree.now) }
+    ensures lossless { OnOk result (IsLossless hash tree.now) }
     ensures error { IfErr result (IsFrameError hash (id, tree.now)) }
 {
     let mut bytes = Vec::new(alloc);

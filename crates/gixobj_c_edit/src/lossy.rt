@@ -1,6 +1,6 @@
 //! Trees whose encoding doesn't decode to them.
 ghost use Rattle.std.specs.Prelude.{◌≡◌, ◌≢◌, IfErr, IfOk, true, false};
-ghost use Rattle.gixobj_c_edit.specs.Lossy.{DecodesToLossyTree, DecodesToNoLossyTree, ReadsBack};
+ghost use Rattle.gixobj_c_edit.specs.Lossy.{DecodesToLossyTree, DecodesToNoLossyTree, IsLossless};
 ghost use Rattle.gixobj_c_edit.specs.declared.failure.Failure.TheVariants as failure;
 ghost use Rattle.gixobj_hash.specs.declared.decode.Error.TheVariants as decode;
 ghost use Rattle.gixobj_tree_entries.specs.TreeDecoding.{DecodesToTree, IsMalformedTree};
@@ -30,16 +30,16 @@ pub fn is_lossy(alloc: Global, hash: Kind, bytes: &[u8]) -> Result<bool, Failure
         Err(decode::Error::Malformed) => return Ok(false),
         Err(decode::Error::OutOfMemory) => return Err(Failure::OutOfMemory),
     };
-    match reads_back(alloc, hash, &tree) {
+    match is_lossless(alloc, hash, &tree) {
         Ok(same) => Ok(!same),
         Err(failure) => Err(failure),
     }
 }
 
 /// Returns whether the encoding of the tree decodes to it.
-fn reads_back(alloc: Global, hash: Kind, tree: &Tree) -> Result<bool, Failure>
-    ensures same { IfOk result (λ it. it ≡ true → ReadsBack hash tree.now) }
-    ensures other { IfOk result (λ it. it ≡ false → ¬ ReadsBack hash tree.now) }
+fn is_lossless(alloc: Global, hash: Kind, tree: &Tree) -> Result<bool, Failure>
+    ensures same { IfOk result (λ it. it ≡ true → IsLossless hash tree.now) }
+    ensures other { IfOk result (λ it. it ≡ false → ¬ IsLossless hash tree.now) }
     ensures error { IfErr result (λ it. it ≡ failure.OutOfMemory) }
 {
     let mut encoding = Vec::new(alloc);

@@ -6,7 +6,7 @@ use Rattle.gixobj_c_edit.proofs.edits.new_trees.Goals as goal
 
 pub returns-in-Ok-clause-found : goal.returns-in-Ok-clause-found
 returns-in-Ok-clause-found c = let last = c.last_id.ensures in
-    is_emitted c.args.hash c.args.replies.now last.0 last.1 _ _ last.2 last.3 c.in_default.ensures c.in-Ok.ensures.found c.in-Ok.ensures.read_back
+    is_emitted c.args.hash c.args.replies.now last.0 last.1 _ _ last.2 last.3 c.in_default.ensures c.in-Ok.ensures.found c.in-Ok.ensures.lossless
 
 pub returns-in-Err-clause-error : goal.returns-in-Err-clause-error
 returns-in-Err-clause-error c = inr (

@@ -1,6 +1,6 @@
 -- Each reply's frames come after those of the replies before it.
 use Rattle.std.specs.List.{flat_map}
-use Rattle.gixobj_c_edit.proofs.FollowingFrames.{error_of_residual, frames_all, frames_error_at, frames_snoc, read_back_all, read_back_snoc}
+use Rattle.gixobj_c_edit.proofs.FollowingFrames.{error_of_residual, frames_all, frames_error_at, frames_snoc, lossless_all, lossless_snoc}
 use Rattle.gixobj_c_edit.proofs.frames.append_each.Goals as goal
 use Rattle.gixobj_c_edit.specs.Frames.{IsFramesEncodeError}
 use Rattle.gixobj_editor.specs.Commands.{pairs_of_edit}
@@ -9,8 +9,8 @@ pub loop-reply-preserved : goal.loop-reply-preserved
 loop-reply-preserved c = (
   frames_snoc pairs_of_edit c.args.replies.now c.loop-reply.reply-index c.reply-item.result c.loop-reply-test.true c.reply-item.is
       c.args.frames.now.items _ _ c.loop-reply.invariant.0 c.in_ok-append_written.ensures.appended,
-  read_back_snoc pairs_of_edit c.args.replies.now c.loop-reply.reply-index c.reply-item.result c.loop-reply-test.true c.reply-item.is c.args.hash
-      c.loop-reply.invariant.1 c.in_ok-append_written.ensures.read_back,
+  lossless_snoc pairs_of_edit c.args.replies.now c.loop-reply.reply-index c.reply-item.result c.loop-reply-test.true c.reply-item.is c.args.hash
+      c.loop-reply.invariant.1 c.in_ok-append_written.ensures.lossless,
 )
 
 pub returns-in_err-append_written-clause-error : goal.returns-in_err-append_written-clause-error
@@ -23,6 +23,6 @@ pub returns-clause-appended : goal.returns-clause-appended
 returns-clause-appended c = frames_all pairs_of_edit c.args.replies.now c.loop-reply.reply-index c.args.frames.now.items _ c.loop-reply-test.false
     c.loop-reply.invariant.0
 
-pub returns-clause-read_back : goal.returns-clause-read_back
-returns-clause-read_back c = read_back_all pairs_of_edit c.args.replies.now c.loop-reply.reply-index c.args.hash c.loop-reply-test.false
+pub returns-clause-lossless : goal.returns-clause-lossless
+returns-clause-lossless c = lossless_all pairs_of_edit c.args.replies.now c.loop-reply.reply-index c.args.hash c.loop-reply-test.false
     c.loop-reply.invariant.1

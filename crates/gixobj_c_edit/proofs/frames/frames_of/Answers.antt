@@ -1,6 +1,6 @@
 -- Each reply's frames come after those of the replies before it.
 use Rattle.std.proofs.Common.{[]}
-use Rattle.gixobj_c_edit.proofs.FollowingFrames.{error_of_residual, frames_all, frames_error_at, frames_snoc, read_back_all, read_back_snoc}
+use Rattle.gixobj_c_edit.proofs.FollowingFrames.{error_of_residual, frames_all, frames_error_at, frames_snoc, lossless_all, lossless_snoc}
 use Rattle.gixobj_c_edit.proofs.frames.frames_of.Goals as goal
 use Rattle.gixobj_c_edit.specs.Frames.{IsFramesEncodeError}
 use Rattle.gixobj_editor.specs.Commands.{emitted_pairs, pairs_of}
@@ -9,8 +9,8 @@ pub loop-reply-preserved : goal.loop-reply-preserved
 loop-reply-preserved c = (
   frames_snoc pairs_of c.args.replies.now c.loop-reply.reply-index c.reply-item.result c.loop-reply-test.true c.reply-item.is [] _ _
       c.loop-reply.invariant.0 c.in_ok-append_reply.ensures.appended,
-  read_back_snoc pairs_of c.args.replies.now c.loop-reply.reply-index c.reply-item.result c.loop-reply-test.true c.reply-item.is c.args.hash
-      c.loop-reply.invariant.1 c.in_ok-append_reply.ensures.read_back,
+  lossless_snoc pairs_of c.args.replies.now c.loop-reply.reply-index c.reply-item.result c.loop-reply-test.true c.reply-item.is c.args.hash
+      c.loop-reply.invariant.1 c.in_ok-append_reply.ensures.lossless,
 )
 
 pub returns-in_err-append_reply-clause-error : goal.returns-in_err-append_reply-clause-error
@@ -22,5 +22,5 @@ returns-in_err-append_reply-clause-error c = error_of_residual c.from_residual.r
 pub returns-clause-found : goal.returns-clause-found
 returns-clause-found c = frames_all pairs_of c.args.replies.now c.loop-reply.reply-index [] _ c.loop-reply-test.false c.loop-reply.invariant.0
 
-pub returns-clause-read_back : goal.returns-clause-read_back
-returns-clause-read_back c = read_back_all pairs_of c.args.replies.now c.loop-reply.reply-index c.args.hash c.loop-reply-test.false c.loop-reply.invariant.1
+pub returns-clause-lossless : goal.returns-clause-lossless
+returns-clause-lossless c = lossless_all pairs_of c.args.replies.now c.loop-reply.reply-index c.args.hash c.loop-reply-test.false c.loop-reply.invariant.1
