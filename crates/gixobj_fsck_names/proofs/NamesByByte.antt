@@ -28,53 +28,53 @@ dropped_iff_each slashes bytes = (
   λ (it : IsDropped slashes bytes). rw it.2 (drops_each_of_parts slashes it.0 it.1 it.3 it.4),
 )
 
-spells_each_of_parts : (slashes : Bool) (spelled rest text : List ℕ) → map to_ascii_lowercase spelled ≡ text
-    → IsDropped slashes rest → SpellsEach slashes (spelled ++ rest) text
+spells_each_of_parts : (slashes : Bool) (spelled rest letters : List ℕ) → map to_ascii_lowercase spelled ≡ letters
+    → IsDropped slashes rest → SpellsEach slashes (spelled ++ rest) letters
 spells_each_of_parts slashes [] rest [] spells dropped = dropped
-spells_each_of_parts slashes [] rest (letter ∷ text) spells dropped = cc
+spells_each_of_parts slashes [] rest (letter ∷ letters) spells dropped = cc
 spells_each_of_parts slashes (byte ∷ spelled) rest [] spells dropped = cc
-spells_each_of_parts slashes (byte ∷ spelled) rest (letter ∷ text) spells dropped =
-    ((cc), spells_each_of_parts slashes spelled rest text (cc) dropped)
+spells_each_of_parts slashes (byte ∷ spelled) rest (letter ∷ letters) spells dropped =
+    ((cc), spells_each_of_parts slashes spelled rest letters (cc) dropped)
 
-spelled_of_each : (slashes : Bool) (name text : List ℕ) → SpellsEach slashes name text → IsOnNtfs slashes name text
+spelled_of_each : (slashes : Bool) (name letters : List ℕ) → SpellsEach slashes name letters → IsOnNtfs slashes name letters
 spelled_of_each slashes name [] each = ([], name, refl, refl, each)
-spelled_of_each slashes [] (letter ∷ text) each = absurd each
-spelled_of_each slashes (byte ∷ name) (letter ∷ text) each =
-    let it = spelled_of_each slashes name text each.1 in
+spelled_of_each slashes [] (letter ∷ letters) each = absurd each
+spelled_of_each slashes (byte ∷ name) (letter ∷ letters) each =
+    let it = spelled_of_each slashes name letters each.1 in
     let first : to_ascii_lowercase byte ≡ letter = each.0 in
-    let others : map to_ascii_lowercase it.0 ≡ text = it.3 in
+    let others : map to_ascii_lowercase it.0 ≡ letters = it.3 in
     (byte ∷ it.0, it.1, ap (λ (bytes : List ℕ). byte ∷ bytes) it.2, (cc), it.4)
 
--- NTFS takes a name for a text if and only if it takes each byte for a letter, and drops the rest
-pub on_ntfs_iff_each : (slashes : Bool) (name text : List ℕ) → SpellsEach slashes name text ↔ IsOnNtfs slashes name text
-on_ntfs_iff_each slashes name text = (
-  spelled_of_each slashes name text,
-  λ (it : IsOnNtfs slashes name text). rw it.2 (spells_each_of_parts slashes it.0 it.1 text it.3 it.4),
+-- NTFS takes a name for a letters if and only if it takes each byte for a letter, and drops the rest
+pub on_ntfs_iff_each : (slashes : Bool) (name letters : List ℕ) → SpellsEach slashes name letters ↔ IsOnNtfs slashes name letters
+on_ntfs_iff_each slashes name letters = (
+  spelled_of_each slashes name letters,
+  λ (it : IsOnNtfs slashes name letters). rw it.2 (spells_each_of_parts slashes it.0 it.1 letters it.3 it.4),
 )
 
-shortens_each_of_parts : (spelled rest : List ℕ) (digit : ℕ) (text : List ℕ) → map to_ascii_lowercase spelled ≡ text
-    → EndsWithDigit (digit ∷ rest) → ShortensEach (spelled ++ (digit ∷ rest)) text
+shortens_each_of_parts : (spelled rest : List ℕ) (digit : ℕ) (letters : List ℕ) → map to_ascii_lowercase spelled ≡ letters
+    → EndsWithDigit (digit ∷ rest) → ShortensEach (spelled ++ (digit ∷ rest)) letters
 shortens_each_of_parts [] rest digit [] spells ends = ends
-shortens_each_of_parts [] rest digit (letter ∷ text) spells ends = cc
+shortens_each_of_parts [] rest digit (letter ∷ letters) spells ends = cc
 shortens_each_of_parts (byte ∷ spelled) rest digit [] spells ends = cc
-shortens_each_of_parts (byte ∷ spelled) rest digit (letter ∷ text) spells ends =
-    ((cc), shortens_each_of_parts spelled rest digit text (cc) ends)
+shortens_each_of_parts (byte ∷ spelled) rest digit (letter ∷ letters) spells ends =
+    ((cc), shortens_each_of_parts spelled rest digit letters (cc) ends)
 
-shortened_of_each : (name text : List ℕ) → ShortensEach name text → IsShortName text name
+shortened_of_each : (name letters : List ℕ) → ShortensEach name letters → IsShortName letters name
 shortened_of_each [] [] each = absurd each
 shortened_of_each (digit ∷ rest) [] each = ([], rest, digit, refl, refl, each.0, each.1)
-shortened_of_each [] (letter ∷ text) each = absurd each
-shortened_of_each (byte ∷ name) (letter ∷ text) each =
-    let it = shortened_of_each name text each.1 in
+shortened_of_each [] (letter ∷ letters) each = absurd each
+shortened_of_each (byte ∷ name) (letter ∷ letters) each =
+    let it = shortened_of_each name letters each.1 in
     let first : to_ascii_lowercase byte ≡ letter = each.0 in
-    let others : map to_ascii_lowercase it.0 ≡ text = it.4 in
+    let others : map to_ascii_lowercase it.0 ≡ letters = it.4 in
     (byte ∷ it.0, it.1, it.2, ap (λ (bytes : List ℕ). byte ∷ bytes) it.3, (cc), it.5, it.6)
 
 -- a name is a short one if and only if each byte is a letter of its beginning, up to the digit
-pub short_name_iff_each : (text name : List ℕ) → ShortensEach name text ↔ IsShortName text name
-short_name_iff_each text name = (
-  shortened_of_each name text,
-  λ (it : IsShortName text name). rw it.3 (shortens_each_of_parts it.0 it.1 it.2 text it.4 (it.5, it.6)),
+pub short_name_iff_each : (letters name : List ℕ) → ShortensEach name letters ↔ IsShortName letters name
+short_name_iff_each letters name = (
+  shortened_of_each name letters,
+  λ (it : IsShortName letters name). rw it.3 (shortens_each_of_parts it.0 it.1 it.2 letters it.4 (it.5, it.6)),
 )
 
 hashes_each_of_number : (digits hash : List ℕ) → IsNumber digits → HashesEach (tilde ∷ digits) hash

@@ -7,7 +7,8 @@ use Rattle.gixobj_fsck_names.specs.Utf8.{BeginsWithCharacter, IsWithin}
 -- the three bytes are the UTF-8 of a code point that HFS+ ignores: U+200C to U+200F, U+202A to U+202E, U+206A to U+206F
 -- or U+FEFF
 abbrev pub IsIgnored : ℕ → ℕ → ℕ → Type 0
-IsIgnored first second third = ((first ≡ 0xe2) × (second ≡ 0x80) × (IsWithin 0x8c 0x8f third ⊎ IsWithin 0xaa 0xae third))
+IsIgnored first second third =
+    ((first ≡ 0xe2) × (second ≡ 0x80) × (IsWithin 0x8c 0x8f third ⊎ IsWithin 0xaa 0xae third))
     ⊎ ((first ≡ 0xe2) × (second ≡ 0x81) × IsWithin 0xaa 0xaf third)
     ⊎ ((first ≡ 0xef) × (second ≡ 0xbb) × (third ≡ 0xbf))
 
@@ -21,10 +22,10 @@ abbrev pub EndsOnHfs : List ℕ → Type 0
 EndsOnHfs [] = ⊤
 EndsOnHfs (byte ∷ rest) = (byte ≡ slash) ⊎ (¬ BeginsWithCharacter (byte ∷ rest))
 
--- HFS+ takes the name for the text, which has no capitals: `.g`, U+200C and `IT` are `.git`, and so are `.git/a` and
--- `.git` before a byte 0xff
+-- HFS+ takes the name for these letters, which are no capitals: `.g`, U+200C and `IT` are `.git`, and so are `.git/a`
+-- and `.git` before a byte 0xff
 pub data IsOnHfs : List ℕ → List ℕ → Type 0 where
   ends : (name : List ℕ) → EndsOnHfs name → IsOnHfs name []
-  ignores : (name rest text : List ℕ) → IsIgnoredBefore rest name → IsOnHfs rest text → IsOnHfs name text
-  reads : (byte letter : ℕ) (rest text : List ℕ) → byte < 0x80 → to_ascii_lowercase byte ≡ letter
-      → IsOnHfs rest text → IsOnHfs (byte ∷ rest) (letter ∷ text)
+  ignores : (name rest letters : List ℕ) → IsIgnoredBefore rest name → IsOnHfs rest letters → IsOnHfs name letters
+  reads : (byte letter : ℕ) (rest letters : List ℕ) → byte < 0x80 → to_ascii_lowercase byte ≡ letter
+      → IsOnHfs rest letters → IsOnHfs (byte ∷ rest) (letter ∷ letters)

@@ -26,6 +26,6 @@ backslash = 92
 abbrev pub tilde : ℕ
 tilde = 126
 
--- the bytes spell the text, which has no capitals, in any case: `.GiT` spells `.git`
+-- the bytes spell the letters, which are no capitals, in any case: `.GiT` spells `.git`
 abbrev pub Spells : List ℕ → List ℕ → Type 0
-Spells bytes text = map to_ascii_lowercase bytes ≡ text
+Spells bytes letters = map to_ascii_lowercase bytes ≡ letters

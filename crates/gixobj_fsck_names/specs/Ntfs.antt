@@ -1,5 +1,5 @@
--- Names as NTFS takes them (git-config, "core.protectNTFS"): it ignores the case of letters, drops spaces and dots at the
--- end, reads what follows a colon as a stream of the file, and gives long names short ones.
+-- Names as NTFS takes them (git-config, "core.protectNTFS"): it ignores the case of letters, drops spaces and dots at
+-- the end, reads what follows a colon as a stream of the file, and has short names for long ones.
 use Rattle.std.specs.Prelude.{◌≡◌, ◌⊎◌, ◌++◌, ℕ, Bool, true, List, [], ◌∷◌, ⊤}
 use Rattle.std.specs.List.{AllByRecursion}
 use Rattle.gixobj_fsck_names.specs.Letters.{Spells, backslash, colon, dot, slash, space}
@@ -18,7 +18,7 @@ abbrev pub IsDropped : Bool → List ℕ → Type 0
 IsDropped slashes bytes = (dropped rest : List ℕ) × (bytes ≡ dropped ++ rest) × AllByRecursion IsSpaceOrDot dropped
     × EndsOnNtfs slashes rest
 
--- NTFS takes the name for the text, which has no capitals: `.GIT. ` is `.git`
+-- NTFS takes the name for these letters, which are no capitals: `.GIT. ` is `.git`
 abbrev pub IsOnNtfs : Bool → List ℕ → List ℕ → Type 0
-IsOnNtfs slashes name text = (spelled rest : List ℕ) × (name ≡ spelled ++ rest) × Spells spelled text
+IsOnNtfs slashes name letters = (spelled rest : List ℕ) × (name ≡ spelled ++ rest) × Spells spelled letters
     × IsDropped slashes rest

@@ -15,8 +15,9 @@ DropsEach slashes (byte ∷ rest) = EndsOnNtfs slashes (byte ∷ rest) ⊎ (IsSp
 -- `IsOnNtfs`
 abbrev pub SpellsEach : Bool → List ℕ → List ℕ → Type 0
 SpellsEach slashes name [] = IsDropped slashes name
-SpellsEach slashes [] (letter ∷ text) = ⊥
-SpellsEach slashes (byte ∷ name) (letter ∷ text) = (to_ascii_lowercase byte ≡ letter) × SpellsEach slashes name text
+SpellsEach slashes [] (letter ∷ letters) = ⊥
+SpellsEach slashes (byte ∷ name) (letter ∷ letters) =
+    (to_ascii_lowercase byte ≡ letter) × SpellsEach slashes name letters
 
 -- one of the digits 1 to 4, and bytes that are dropped
 abbrev pub EndsWithDigit : List ℕ → Type 0
@@ -26,8 +27,8 @@ EndsWithDigit (digit ∷ rest) = IsWithin 49 52 digit × IsDropped false rest
 -- `IsShortName`
 abbrev pub ShortensEach : List ℕ → List ℕ → Type 0
 ShortensEach name [] = EndsWithDigit name
-ShortensEach [] (letter ∷ text) = ⊥
-ShortensEach (byte ∷ name) (letter ∷ text) = (to_ascii_lowercase byte ≡ letter) × ShortensEach name text
+ShortensEach [] (letter ∷ letters) = ⊥
+ShortensEach (byte ∷ name) (letter ∷ letters) = (to_ascii_lowercase byte ≡ letter) × ShortensEach name letters
 
 -- `IsHashed`
 abbrev pub HashesEach : List ℕ → List ℕ → Type 0
@@ -44,5 +45,5 @@ FindsBackslash P (byte ∷ rest) = ((byte ≡ backslash) × P rest) ⊎ FindsBac
 -- `IsOnHfs` of a name that begins with no ignored code point
 abbrev pub ReadsNext : List ℕ → List ℕ → Type 0
 ReadsNext name [] = EndsOnHfs name
-ReadsNext [] (letter ∷ text) = ⊥
-ReadsNext (byte ∷ rest) (letter ∷ text) = (byte < 0x80) × (to_ascii_lowercase byte ≡ letter) × IsOnHfs rest text
+ReadsNext [] (letter ∷ letters) = ⊥
+ReadsNext (byte ∷ rest) (letter ∷ letters) = (byte < 0x80) × (to_ascii_lowercase byte ≡ letter) × IsOnHfs rest letters

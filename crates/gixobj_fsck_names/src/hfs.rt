@@ -5,17 +5,17 @@ ghost use Rattle.gixobj_fsck_names.specs.Walks.{ReadsNext};
 
 use crate::utf8::begins_with_character;
 
-/// Returns whether HFS+ takes the name for the text, which has no capitals.
+/// Returns whether HFS+ takes the name for these letters, which are no capitals.
 #[cycle(hfs)]
-pub(crate) fn is_on_hfs(name: &[u8], text: &[u8]) -> bool
-    ensures { IsTrue result ↔ IsOnHfs name.now text.now }
+pub(crate) fn is_on_hfs(name: &[u8], letters: &[u8]) -> bool
+    ensures { IsTrue result ↔ IsOnHfs name.now letters.now }
 {
-    reads_next(skip_ignored(name), text)
+    reads_next(skip_ignored(name), letters)
 }
 
 /// Returns the name without the ignored code points that it begins with.
 fn skip_ignored(name: &[u8]) -> &[u8]
-    ensures same { (text : List ℕ) → IsOnHfs result.now text ↔ IsOnHfs name.now text }
+    ensures same { (letters : List ℕ) → IsOnHfs result.now letters ↔ IsOnHfs name.now letters }
     ensures skipped { ¬ ((rest : List ℕ) × IsIgnoredBefore rest result.now) }
 {
     let mut rest = name;
@@ -27,16 +27,16 @@ fn skip_ignored(name: &[u8]) -> &[u8]
 
 /// Returns whether the first byte is the next letter, and HFS+ takes the rest for the other letters.
 #[cycle(hfs)]
-fn reads_next(name: &[u8], text: &[u8]) -> bool
-    ensures { IsTrue result ↔ ReadsNext name.now text.now }
+fn reads_next(name: &[u8], letters: &[u8]) -> bool
+    ensures { IsTrue result ↔ ReadsNext name.now letters.now }
 {
-    match text {
+    match letters {
         [] => ends_on_hfs(name),
-        [letter, text @ ..] => match name {
+        [letter, letters @ ..] => match name {
             [] => false,
             [byte, rest @ ..] => *byte < 0x80
                 && byte.to_ascii_lowercase() == *letter
-                && is_on_hfs(rest, text),
+                && is_on_hfs(rest, letters),
         },
     }
 }

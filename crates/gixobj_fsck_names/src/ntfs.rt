@@ -3,11 +3,11 @@ ghost use Rattle.std.specs.Prelude.{◌↔◌, IsTrue};
 ghost use Rattle.gixobj_fsck_names.specs.Ntfs.{EndsOnNtfs, IsDropped, IsOnNtfs};
 ghost use Rattle.gixobj_fsck_names.specs.Walks.{DropsEach, SpellsEach};
 
-/// Returns whether NTFS takes the name for the text, which has no capitals.
-pub(crate) fn is_on_ntfs(slashes: bool, name: &[u8], text: &[u8]) -> bool
-    ensures { IsTrue result ↔ IsOnNtfs slashes name.now text.now }
+/// Returns whether NTFS takes the name for these letters, which are no capitals.
+pub(crate) fn is_on_ntfs(slashes: bool, name: &[u8], letters: &[u8]) -> bool
+    ensures { IsTrue result ↔ IsOnNtfs slashes name.now letters.now }
 {
-    spells_each(slashes, name, text)
+    spells_each(slashes, name, letters)
 }
 
 /// Returns whether NTFS drops the bytes at the end of a name.
@@ -17,15 +17,15 @@ pub(crate) fn is_dropped(slashes: bool, bytes: &[u8]) -> bool
     drops_each(slashes, bytes)
 }
 
-fn spells_each(slashes: bool, name: &[u8], text: &[u8]) -> bool
-    ensures { IsTrue result ↔ SpellsEach slashes name.now text.now }
+fn spells_each(slashes: bool, name: &[u8], letters: &[u8]) -> bool
+    ensures { IsTrue result ↔ SpellsEach slashes name.now letters.now }
 {
-    match text {
+    match letters {
         [] => is_dropped(slashes, name),
-        [letter, text @ ..] => match name {
+        [letter, letters @ ..] => match name {
             [] => false,
             [byte, name @ ..] => byte.to_ascii_lowercase() == *letter
-                && spells_each(slashes, name, text),
+                && spells_each(slashes, name, letters),
         },
     }
 }

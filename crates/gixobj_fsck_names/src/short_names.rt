@@ -1,4 +1,4 @@
-//! Short names that NTFS gives to long ones.
+//! Short names that NTFS has for long ones.
 ghost use Rattle.std.specs.Prelude.{◌↔◌, IsTrue};
 ghost use Rattle.std.specs.List.{AllByRecursion};
 ghost use Rattle.gixobj_fsck_names.specs.DotFiles.{IsHashed, IsHashedName, IsNumber, IsShortName};
@@ -21,14 +21,14 @@ pub(crate) fn is_hashed_name(hash: &[u8], name: &[u8]) -> bool
     8 <= name.len() && is_hashed(hash, &name[..8]) && is_dropped(false, &name[8..])
 }
 
-fn shortens_each(name: &[u8], text: &[u8]) -> bool
-    ensures { IsTrue result ↔ ShortensEach name.now text.now }
+fn shortens_each(name: &[u8], letters: &[u8]) -> bool
+    ensures { IsTrue result ↔ ShortensEach name.now letters.now }
 {
-    match text {
+    match letters {
         [] => ends_with_digit(name),
-        [letter, text @ ..] => match name {
+        [letter, letters @ ..] => match name {
             [] => false,
-            [byte, name @ ..] => byte.to_ascii_lowercase() == *letter && shortens_each(name, text),
+            [byte, name @ ..] => byte.to_ascii_lowercase() == *letter && shortens_each(name, letters),
         },
     }
 }

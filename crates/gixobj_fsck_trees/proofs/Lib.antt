@@ -1,3 +1,4 @@
+mod NamesAscend
 mod NamesSeen
 mod OctalNumbers
 mod RawEntryParts

@@ -15,8 +15,8 @@ pub record RawEntryView : Type 0 where
   pub name : List ℕ
   pub id : List ℕ
 
--- the input begins with this entry, and the rest follows: octal digits, a space, a name that has a byte, a zero byte, and
--- an id
+-- the input begins with this entry, and the rest follows: octal digits, a space, a name that has a byte, a zero byte,
+-- and an id
 pub record BeginsWithRawEntry (kind : Kind) (input : List ℕ) (e : RawEntryView) (rest : List ℕ) : Type 0 where
   pub digits : List ℕ
   pub joined : input ≡ digits ++ space ∷ (e.name ++ 0 ∷ (e.id ++ rest))

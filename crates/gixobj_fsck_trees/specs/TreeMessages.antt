@@ -1,5 +1,7 @@
 -- The messages of git-fsck about a tree (git-fsck, "FSCK MESSAGES").
-use Rattle.std.specs.Prelude.{◌≡◌, ◌≢◌, ◌⊎◌, ◌↔◌, ◌==◌, ◌-◌, ℕ, Bool, List, [], ◌∷◌, length, take}
+use Rattle.std.specs.Prelude.{◌≡◌, ◌≢◌, ◌⊎◌, ◌↔◌, ◌==◌, ◌-◌, ℕ, Bool, List, [], ◌∷◌, length, take, ⊤}
+use Rattle.std.specs.Cmp.Lexicographic.{slice_cmp}
+use Rattle.std.specs.Ordering.{nat_cmp}
 use Rattle.std.specs.declared.cmp.Ordering.TheVariants.{Less}
 use Rattle.gixobj_fsck_messages.specs.Sets.{HasMessage}
 use Rattle.gixobj_fsck_messages.specs.declared.message.Message.{Message}
@@ -21,8 +23,8 @@ HasEntry P (e ∷ entries) = P e ⊎ HasEntry P entries
 abbrev pub is_directory : RawEntryView → Bool
 is_directory e = type_bits (e.mode) == tree_type
 
--- the entries have different names, and the first isn't less in the order of names, which compares the common length and
--- one more byte
+-- the entries have different names, and the first isn't less in the order of names, which compares the common length
+-- and one more byte
 abbrev pub StepsDown : RawEntryView → RawEntryView → Type 0
 StepsDown e next = (e.name ≢ next.name) × (name_cmp e.name (is_directory e) next.name (is_directory next) ≢ Less)
 
@@ -37,11 +39,17 @@ abbrev pub HasNameTwice : List RawEntryView → Type 0
 HasNameTwice [] = ⊥
 HasNameTwice (e ∷ entries) = HasEntry (λ other. other.name ≡ e.name) entries ⊎ HasNameTwice entries
 
+-- each name is less than the next, bytewise
+abbrev pub Ascend : List RawEntryView → Type 0
+Ascend [] = ⊤
+Ascend (e ∷ []) = ⊤
+Ascend (e ∷ next ∷ entries) = (slice_cmp nat_cmp e.name next.name ≡ Less) × Ascend (next ∷ entries)
+
 -- the entries without the last
 abbrev pub without_last : List RawEntryView → List RawEntryView
 without_last entries = take (length entries - 1) entries
 
--- the entries whose modes, order and names git compares: not the one before a broken place
+-- the entries whose modes, order and names git compares: not the last one of a broken tree
 abbrev pub compared : List RawEntryView → Ending → List RawEntryView
 compared entries complete = entries
 compared entries broken = without_last entries

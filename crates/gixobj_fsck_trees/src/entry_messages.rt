@@ -64,8 +64,8 @@ fn with_name(messages: Messages, entry: &RawEntry) -> Messages
         ↔ (HasMessage messages it ⊎ HasNameMessage (raw_entry_view entry.now) it) }
 {
     let full = with(messages, Message::FullPathname, has_slash(entry.name));
-    let dot = with(full, Message::HasDot, is_text(entry.name, b"."));
-    let dotdot = with(dot, Message::HasDotdot, is_text(entry.name, b".."));
+    let dot = with(full, Message::HasDot, is_name(entry.name, b"."));
+    let dotdot = with(dot, Message::HasDotdot, is_name(entry.name, b".."));
     with(dotdot, Message::HasDotgit, is_dot_git(entry.name))
 }
 
@@ -94,11 +94,11 @@ pub(crate) fn has_bad_mode(strict: bool, entry: &RawEntry) -> bool
     }
 }
 
-/// Returns whether the name is this text.
-fn is_text(name: &[u8], text: &[u8]) -> bool
-    ensures { IsTrue result ↔ (name.now ≡ text.now) }
+/// Returns whether the name is the other one.
+fn is_name(name: &[u8], other: &[u8]) -> bool
+    ensures { IsTrue result ↔ (name.now ≡ other.now) }
 {
-    name == text
+    name == other
 }
 
 /// Returns whether the name has a slash.

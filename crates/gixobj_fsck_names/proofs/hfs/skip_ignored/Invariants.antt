@@ -3,7 +3,7 @@ use Rattle.gixobj_fsck_names.specs.Hfs.{IsOnHfs}
 use Rattle.gixobj_fsck_names.proofs.hfs.skip_ignored.Given as goal
 
 abbrev pub invariant-loop-after : goal.invariant-loop-after
-invariant-loop-after l = (text : List ℕ) → IsOnHfs l.rest text ↔ IsOnHfs l.name text
+invariant-loop-after l = (letters : List ℕ) → IsOnHfs l.rest letters ↔ IsOnHfs l.name letters
 
 abbrev pub decreases-loop-after : goal.decreases-loop-after
 decreases-loop-after l = length l.rest

@@ -1,5 +1,8 @@
-use Rattle.std.proofs.Common.{◌<◌, ◌∙◌, ℕ, Bool, List, Bor, rules, length, refl, sym}
+use Rattle.std.proofs.Common.{◌≡◌, ◌<◌, ◌∙◌, ℕ, Bool, List, Bor, rules, length, refl, sym, IsTrue, true, false}
 use Rattle.std.specs.BTreeSet.{contains}
+use Rattle.gixobj_fsck_trees.proofs.NamesAscend.{not_twice_of_ascend}
+use Rattle.gixobj_fsck_trees.specs.RawViews.{raw_entry_views}
+use Rattle.gixobj_fsck_trees.specs.TreeMessages.{Ascend, HasNameTwice}
 use Rattle.gixobj_fsck_trees.proofs.NamesSeen.{bytes_order, not_seen_of_empty, twice_or_seen_at, twice_or_seen_start, twice_or_seen_step_at}
 use Rattle.gixobj_fsck_trees.proofs.name_twice.has_name_twice.Goals as goal
 
@@ -22,3 +25,11 @@ loop-entry-preserved c =
     let step = twice_or_seen_step_at before after c.args.entries.now c.loop-entry.entry-index within c.in_ok-insert.ensures.updates.0
     (sym c.if-not-branch.false ∙ c.in_ok-insert.ensures.added) in
     (λ left. c.loop-entry.invariant.0 (step.1 left), λ twice. step.0 (c.loop-entry.invariant.1 twice))
+
+pub returns-then-names_ascend-clause-found : goal.returns-then-names_ascend-clause-found
+returns-then-names_ascend-clause-found c =
+    let entries = raw_entry_views c.args.entries.now in
+    let ascend : Ascend entries = c.names_ascend.ensures.0 c.if-names_ascend.true in (
+      λ (answer : IsTrue false). absurd (let it : false ≡ true = answer in cc),
+      λ (twice : HasNameTwice entries). absurd (not_twice_of_ascend entries ascend twice),
+    )
