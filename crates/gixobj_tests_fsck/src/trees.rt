@@ -9,7 +9,12 @@ use gixobj_tests_recorded::fields::{kind_and_bytes, split_at_first};
 pub(crate) fn tree_answer(question: &[u8], answer: &mut Answer) {
     let (check, rest) = split_at_first(question, b' ');
     let (hash_kind, bytes) = kind_and_bytes(rest, answer);
-    let Ok(messages) = fsck_tree(answer.alloc, bytes.as_slice(), hash_kind, check == b"strict".as_slice()) else {
+    let Ok(messages) = fsck_tree(
+        answer.alloc,
+        bytes.as_slice(),
+        hash_kind,
+        check == b"strict".as_slice(),
+    ) else {
         return answer.fail();
     };
     if messages.is_empty() {
