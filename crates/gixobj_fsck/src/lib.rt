@@ -1,4 +1,7 @@
-//! The messages of `git fsck` about one commit, as sets, and whether git accepts it.
+//! Git's messages about a commit, and its verdict.
+//!
+//! [`fsck_commit`] returns the messages of `git fsck` as a set, and [`is_commit_accepted`] whether git accepts
+//! the commit. Both run without git's parser, which rejects some malformed commits before a check.
 #![tactic(auto)]
 
 pub mod actors;

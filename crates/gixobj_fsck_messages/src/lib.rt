@@ -1,4 +1,4 @@
-//! The messages of `git fsck` about one tree, commit or tag: their names, severities and sets of them.
+//! Git's messages about one tree, commit or tag: names, severities and sets. `git fsck` prints them.
 //!
 //! Messages about references, and about the content of `.gitmodules` and `.gitattributes`, aren't here (`git-fsck`,
 //! "FSCK MESSAGES").

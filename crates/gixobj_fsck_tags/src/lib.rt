@@ -1,4 +1,7 @@
-//! The messages of `git fsck` about one tag, as sets, and whether git accepts it.
+//! Git's messages about a tag, and its verdict.
+//!
+//! [`fsck_tag`] returns the messages of `git fsck` as a set, and [`is_tag_accepted`] whether git accepts the tag. Both
+//! run without git's parser, which rejects some malformed tags before a check.
 #![tactic(auto)]
 
 pub mod tags;

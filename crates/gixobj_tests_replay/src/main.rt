@@ -5,6 +5,7 @@
 
 mod actors;
 mod commits;
+mod fsck;
 mod objects;
 mod trees;
 mod values;
@@ -16,6 +17,7 @@ use commits::{
     beginning_answer, call_answer, commit_answer, search_answer, shape_answer, size_answer,
     token_answer,
 };
+use fsck::{fsck_message_answer, fsck_verdict_answer};
 use gixobj_tests_recorded::answer::Form;
 use gixobj_tests_recorded::tables::{Replay, Rows};
 use objects::{loose_answer, object_answer};
@@ -35,6 +37,7 @@ fn main(rt: HostRuntime) -> ExitCode {
     replay_fields_and_commits(&mut replay);
     replay_objects_and_fields(&mut replay);
     replay_shapes(&mut replay);
+    replay_messages(&mut replay);
     match replay.end() {
         Ok(true) => ExitCode::SUCCESS,
         Ok(false) => ExitCode::FAILURE,
@@ -85,4 +88,10 @@ fn replay_shapes<R: Files + Print + AllocGlobal>(replay: &mut Replay<'_, R>) {
     replay.table("commit beginnings", Named(Escaped), beginning_answer);
     replay.table("commit calls", Named(Escaped), call_answer);
     replay.table("git objects", Named(Escaped), loose_answer);
+}
+
+/// Compares the tables of the messages and verdicts of `git fsck`.
+fn replay_messages<R: Files + Print + AllocGlobal>(replay: &mut Replay<'_, R>) {
+    replay.table("fsck messages", Named(Escaped), fsck_message_answer);
+    replay.table("fsck verdicts", Named(Escaped), fsck_verdict_answer);
 }
