@@ -33,8 +33,9 @@ begins_of_ignored first second third rest (inl it) =
     let first_is : first ≡ 0xe2 = it.0 in
     let second_is : second ≡ 0x80 = it.1 in
     let third_is : (0x80 ≤ third) × (third ≤ 0xbf) = elim it.2 [
-        inl low ↦ (omega (arith, low), omega (arith, low))
-        | inr high ↦ (omega (arith, high), omega (arith, high)) ] in (
+      | inl low ↦ (omega (arith, low), omega (arith, low))
+      | inr high ↦ (omega (arith, high), omega (arith, high))
+    ] in (
       inr (inl ((omega arith, omega arith), (omega arith, omega arith))),
       third_is,
       λ no. let f : first ≡ 0xef = no.0 in omega arith,

@@ -28,7 +28,8 @@ fn shortens_each(name: &[u8], letters: &[u8]) -> bool
         [] => ends_with_digit(name),
         [letter, letters @ ..] => match name {
             [] => false,
-            [byte, name @ ..] => byte.to_ascii_lowercase() == *letter && shortens_each(name, letters),
+            [byte, name @ ..] => byte.to_ascii_lowercase() == *letter
+                && shortens_each(name, letters),
         },
     }
 }
