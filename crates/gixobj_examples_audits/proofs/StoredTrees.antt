@@ -1,6 +1,6 @@
 -- The tests of `is_canonical` decide whether a stored tree is canonical; its proof and those of its parts use it.
 use Rattle.std.proofs.Common.{◌≡◌, ◌≢◌, ◌↔◌, ◌∙◌, ◌-◌, ◌+◌, ◌<◌, inl, inr, ℕ, zero, suc, Bool, true, false, List, [], ◌∷◌, ◌++◌, Option, Some, Err, Ok, Result, refl, sym, ap, subst, arith, get_or, length, take}
-use Rattle.std.specs.Prelude.{IfErr, IfOk, IsTrue, MatchOption}
+use Rattle.std.specs.Prelude.{IfErr, IfOk, IsTrue, MatchOption, slice_get}
 use Rattle.std.specs.List.{AllByRecursion}
 use Rattle.std.proofs.lemmas.List.{take_more}
 use Rattle.gixobj_editor_files.proofs.NullIds.{is_null_of_test}
@@ -17,7 +17,7 @@ use Rattle.gixobj_listings.specs.Listings.{IsDirectory}
 use Rattle.gixobj_listings.specs.Roots.{IsRoot}
 use Rattle.gixobj_listings.specs.declared.roots.RootError.{RootError}
 use Rattle.gixobj_examples_audits.proofs.BuiltTrees.{all_of_contains}
-use Rattle.gixobj_examples_audits.specs.Canonical.{IsCanonicalTree, IsCanonicalEntry, IsPlainDirectory, IsUnreadBelow, NamesCanonical}
+use Rattle.gixobj_examples_audits.specs.Canonical.{AreCanonicalBefore, IsCanonicalTree, IsCanonicalEntry, IsPlainDirectory, IsUnreadBelow, NamesCanonical}
 
 -- ---- entries
 
@@ -41,12 +41,13 @@ canonical_of_directory objects hash n inside e same some is plain (Ok it) had = 
     let its : IsTrue it ↔ NamesCanonical trees hash n e.id = subst (λ (y : EntryView). IsTrue it ↔ NamesCanonical trees hash n y.id) same (had trees fits) in
     ((λ yes. (some, λ dir. (plain, its.0 yes))), λ h. its.1 (h.1 is).1)
 
-pub error_of_directory : (objects : Objects) (may_fail : ObjectId → Bool) (inside e : EntryView) → inside ≡ e → is_null e.id ≡ false
-    → is_tree_mode e.mode ≡ true → (r : Result Bool RootError) → IfErr r (IsUnreadBelow objects may_fail inside.id)
-    → IfErr r (λ error. IsDirectory e × IsUnreadBelow objects may_fail e.id error)
-error_of_directory objects may_fail inside e same some is (Ok it) had = tt
-error_of_directory objects may_fail inside e same some is (Err error) had =
-    ((is, some), subst (λ (y : EntryView). IsUnreadBelow objects may_fail y.id error) same had)
+pub error_of_directory : (objects : Objects) (may_fail : ObjectId → Bool) (hash : Kind) (n : ℕ) (inside e : EntryView) → inside ≡ e
+    → is_null e.id ≡ false → is_tree_mode e.mode ≡ true → IsPlainDirectory hash e → (r : Result Bool RootError)
+    → IfErr r (IsUnreadBelow objects may_fail hash n inside.id)
+    → IfErr r (λ error. IsDirectory e × IsPlainDirectory hash e × IsUnreadBelow objects may_fail hash n e.id error)
+error_of_directory objects may_fail hash n inside e same some is plain (Ok it) had = tt
+error_of_directory objects may_fail hash n inside e same some is plain (Err error) had =
+    ((is, some), plain, subst (λ (y : EntryView). IsUnreadBelow objects may_fail hash n y.id error) same had)
 
 -- ---- trees
 
@@ -97,9 +98,16 @@ module _ (objects : Objects) (trees : Trees) (fits : AreTreesOf objects trees) (
         (entries_of_canonical n is).1 e (contains_entry_at tree i e lt at)) in cc (yes, otherwise)),
   )
 
--- an error at or below a directory is one below the tree
-pub error_below_tree : (objects : Objects) (may_fail : ObjectId → Bool) (id : ObjectId) (tree : List EntryView) → IsRoot objects id tree → (i : ℕ)
-    (e : EntryView) → i < length tree → e ≡ get_or tree i e → (error : RootError) → IsDirectory e × IsUnreadBelow objects may_fail e.id error
-    → IsUnreadBelow objects may_fail id error
-error_below_tree objects may_fail id tree root i e lt at error (dir, (path, it, leads, is)) =
-    (e.name ∷ path, it, (tree, root, (e, contains_entry_at tree i e lt at, refl, dir, leads)), is)
+slice_get_at : (es : List EntryView) (i : ℕ) (e : EntryView) → i < length es → e ≡ get_or es i e → slice_get es i ≡ Some e
+slice_get_at [] i e lt is = absurd (omega (arith, lt))
+slice_get_at (x ∷ es) zero e lt is = ap Some (sym is)
+slice_get_at (x ∷ es) (suc i) e lt is = slice_get_at es i e (omega (arith, lt)) is
+
+-- an error at or below a directory is one below the tree, if the entries before the directory are canonical
+pub error_below_tree : (objects : Objects) (may_fail : ObjectId → Bool) (hash : Kind) (depth : ℕ) → depth ≢ 0 → (id : ObjectId)
+    → (IsNeverLookedUp id → ⊥) → (tree : List EntryView) → IsRoot objects id tree → (i : ℕ) (e : EntryView) → i < length tree → e ≡ get_or tree i e
+    → AreCanonicalBefore objects hash (depth - 1) i tree → (error : RootError)
+    → IsDirectory e × IsPlainDirectory hash e × IsUnreadBelow objects may_fail hash (depth - 1) e.id error
+    → IsUnreadBelow objects may_fail hash depth id error
+error_below_tree objects may_fail hash depth some id looked_up tree root i e lt at before error (dir, plain, (path, unread)) =
+    (e.name ∷ path, (some, looked_up, (tree, i, e, root, slice_get_at tree i e lt at, refl, dir, plain, before, unread)))

@@ -1,18 +1,19 @@
 -- Canonical trees, which their files determine, and tables that agree with two stores.
-use Rattle.std.specs.Prelude.{◌≡◌, ◌≢◌, ◌⊎◌, ℕ, Bool, zero, suc, IsFalse, IsTrue, List, [], MatchOption, Some}
+use Rattle.std.specs.Prelude.{◌≡◌, ◌≢◌, ◌⊎◌, ◌-◌, ℕ, Bool, zero, suc, IsFalse, IsTrue, List, [], ◌∷◌, MatchOption, Some, slice_get, take}
 use Rattle.std.specs.List.{AllByRecursion}
 use Rattle.gix_object.specs.Entries.{EntryView}
 use Rattle.gix_object.specs.Files.{Path, Table, Trees, is_null}
 use Rattle.gix_object.specs.Hash.{id_kind, id_of}
 use Rattle.gix_object.specs.Mode.{is_tree_mode, tree_type}
+use Rattle.gix_object.specs.Openings.{OfTrees}
 use Rattle.gix_object.specs.Stores.{Objects}
 use Rattle.gix_object.specs.Tables.{AgreesWithStore, IsNeverLookedUp}
 use Rattle.gix_object.specs.WellFormed.{IsWellFormed}
 use Rattle.gix_object.specs.hash.hash.kind.Kind.{Kind}
 use Rattle.gix_object.specs.hash.hash.object_id.ObjectId.{ObjectId}
 use Rattle.gix_object.specs.hash.kind.Kind.TheVariants.{Tree}
-use Rattle.gixobj_listings.specs.Listings.{LeadsToDirectory}
-use Rattle.gixobj_listings.specs.Roots.{IsRootError}
+use Rattle.gixobj_listings.specs.Listings.{IsDirectory}
+use Rattle.gixobj_listings.specs.Roots.{IsRoot, IsRootError}
 use Rattle.gixobj_listings.specs.declared.roots.RootError.{RootError}
 
 -- the id names a tree with entries in the store, and the tree has this property
@@ -44,10 +45,26 @@ abbrev pub IsCanonicalRoot : Trees → Kind → ℕ → ObjectId → Type 0
 IsCanonicalRoot trees hash n id = (id_kind id ≡ hash)
     × ((id ≡ id_of hash Tree []) ⊎ NamesCanonical trees hash n id)
 
--- the error of a lookup of a directory of the tree with this id, at a path
-abbrev pub IsUnreadBelow : Objects → (ObjectId → Bool) → ObjectId → RootError → Type 0
-IsUnreadBelow objects may_fail root error = (path : Path) × (id : ObjectId) × LeadsToDirectory objects root path id
+-- the first `count` entries are canonical, with at most `n` trees on a path
+abbrev pub AreCanonicalBefore : Objects → Kind → ℕ → ℕ → List EntryView → Type 0
+AreCanonicalBefore objects hash n count entries = OfTrees objects (λ trees.
+    AllByRecursion (IsCanonicalEntry trees hash (IsCanonicalTree trees hash n)) (take count entries))
+
+-- the error of the tree at this path, below the tree with this id. Each tree on the path is looked up, as a plain
+-- directory, and there are at most `depth`. The entries before the path's are canonical
+abbrev pub IsUnreadAt : Objects → (ObjectId → Bool) → Kind → ℕ → ObjectId → Path → RootError → Type 0
+IsUnreadAt objects may_fail hash depth id [] error = (depth ≢ 0) × (¬ IsNeverLookedUp id)
     × IsRootError objects may_fail id error
+IsUnreadAt objects may_fail hash depth id (name ∷ path) error = (depth ≢ 0) × (¬ IsNeverLookedUp id)
+    × ((entries : List EntryView) × (count : ℕ) × (e : EntryView) × IsRoot objects id entries
+    × (slice_get entries count ≡ Some e) × (e.name ≡ name) × IsDirectory e × IsPlainDirectory hash e
+    × AreCanonicalBefore objects hash (depth - 1) count entries
+    × IsUnreadAt objects may_fail hash (depth - 1) e.id path error)
+
+-- the error of the first tree that isn't read, at or below the tree with this id; the entries before it are canonical
+abbrev pub IsUnreadBelow : Objects → (ObjectId → Bool) → Kind → ℕ → ObjectId → RootError → Type 0
+IsUnreadBelow objects may_fail hash depth root error = (path : Path)
+    × IsUnreadAt objects may_fail hash depth root path error
 
 -- the table agrees with both stores, and no tree has two ids of one kind in it
 pub record AgreesWithBoth (T : Table) (trees others : Trees) : Type 0 where

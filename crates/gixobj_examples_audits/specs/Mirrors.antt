@@ -21,13 +21,19 @@ DecidesSameFiles trees others root copy same = (T U shared : Table) → AgreesWi
 abbrev pub IsNotCanonical : Objects → ℕ → ObjectId → Type 0
 IsNotCanonical objects depth root = OfTrees objects (λ trees. ¬ IsCanonicalRoot trees (id_kind root) depth root)
 
--- the errors of the comparison: the kinds differ, or a root isn't canonical, or a tree isn't found or well-formed
+-- the root is canonical in the store
+abbrev pub IsCanonicalIn : Objects → ℕ → ObjectId → Type 0
+IsCanonicalIn objects depth root = OfTrees objects (λ trees. IsCanonicalRoot trees (id_kind root) depth root)
+
+-- the errors of the comparison: the kinds differ; or a root isn't canonical, or a tree isn't found or well-formed. The
+-- copy's errors only come if the root is canonical
 abbrev pub IsMirrorError : Objects → (ObjectId → Bool) → Objects → (ObjectId → Bool) → ObjectId → ObjectId → ℕ
     → MirrorError → Type 0
 IsMirrorError objects may_fail others its_may_fail root copy depth mirror.Kind = id_kind root ≢ id_kind copy
-IsMirrorError objects may_fail others its_may_fail root copy depth (mirror.Root error) =
-    IsUnreadBelow objects may_fail root error
-IsMirrorError objects may_fail others its_may_fail root copy depth (mirror.Copy error) =
-    IsUnreadBelow others its_may_fail copy error
+IsMirrorError objects may_fail others its_may_fail root copy depth (mirror.Root error) = (id_kind root ≡ id_kind copy)
+    × IsUnreadBelow objects may_fail (id_kind root) depth root error
+IsMirrorError objects may_fail others its_may_fail root copy depth (mirror.Copy error) = (id_kind root ≡ id_kind copy)
+    × IsCanonicalIn objects depth root × IsUnreadBelow others its_may_fail (id_kind copy) depth copy error
 IsMirrorError objects may_fail others its_may_fail root copy depth (mirror.NotCanonical id) =
-    ((id ≡ root) × IsNotCanonical objects depth root) ⊎ ((id ≡ copy) × IsNotCanonical others depth copy)
+    (id_kind root ≡ id_kind copy) × (((id ≡ root) × IsNotCanonical objects depth root)
+    ⊎ ((id ≡ copy) × IsCanonicalIn objects depth root × IsNotCanonical others depth copy))

@@ -21,7 +21,8 @@ use std::alloc::Global;
 ///
 /// # Errors
 ///
-/// [`RootError`] of a tree at or below the root that isn't found or isn't well-formed.
+/// [`RootError`] of the first tree at or below the root that isn't found or isn't well-formed. Each entry
+/// before it is canonical.
 pub fn is_canonical<S: Find>(
     alloc: Global,
     store: &S,
@@ -30,7 +31,8 @@ pub fn is_canonical<S: Find>(
 ) -> Result<bool, RootError>
     ensures canonical { IfOk result (λ canonical. OfTrees (S.objects store.now) (λ trees.
         IsTrue canonical ↔ IsCanonicalRoot trees (id_kind root) depth root)) }
-    ensures error { IfErr result (IsUnreadBelow (S.objects store.now) (S.may_fail store.now) root) }
+    ensures error { IfErr result (IsUnreadBelow (S.objects store.now) (S.may_fail store.now)
+        (id_kind root) depth root) }
 {
     if root.is_empty_tree() {
         return Ok(true);
@@ -49,7 +51,8 @@ fn is_canonical_tree<S: Find>(
 ) -> Result<bool, RootError>
     ensures canonical { IfOk result (λ canonical. OfTrees (S.objects store.now) (λ trees.
         IsTrue canonical ↔ NamesCanonical trees hash depth id)) }
-    ensures error { IfErr result (IsUnreadBelow (S.objects store.now) (S.may_fail store.now) id) }
+    ensures error { IfErr result (IsUnreadBelow (S.objects store.now) (S.may_fail store.now) hash
+        depth id) }
 {
     if depth == 0 {
         return Ok(false);
@@ -80,8 +83,8 @@ fn is_canonical_entry<S: Find>(
 ) -> Result<bool, RootError>
     ensures canonical { IfOk result (λ canonical. OfTrees (S.objects store.now) (λ trees.
         IsTrue canonical ↔ IsCanonicalEntry trees hash (IsCanonicalTree trees hash depth) entry.now)) }
-    ensures error { IfErr result (λ error. IsDirectory entry.now
-        × IsUnreadBelow (S.objects store.now) (S.may_fail store.now) entry.now.id error) }
+    ensures error { IfErr result (λ error. IsDirectory entry.now × IsPlainDirectory hash entry.now
+        × IsUnreadBelow (S.objects store.now) (S.may_fail store.now) hash depth entry.now.id error) }
 {
     if entry.oid.is_null() {
         return Ok(false);

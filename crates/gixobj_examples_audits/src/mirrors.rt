@@ -39,7 +39,8 @@ pub enum MirrorError {
 /// # Errors
 ///
 /// - [`MirrorError::Kind`] if the ids are of different kinds;
-/// - [`MirrorError::Root`] or [`MirrorError::Copy`] with the error of [`is_canonical`];
+/// - [`MirrorError::Root`] with the error of [`is_canonical`] for the root, or [`MirrorError::Copy`] with that
+///   for the copy, which is checked only after a canonical root;
 /// - [`MirrorError::NotCanonical`] with the first root that isn't canonical.
 pub fn is_mirrored<S: Find, O: Find>(
     alloc: Global,

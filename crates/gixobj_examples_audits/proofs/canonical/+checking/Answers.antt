@@ -26,8 +26,14 @@ pub is_canonical_entry-returns-clause-error : goal.is_canonical_entry-returns-cl
 is_canonical_entry-returns-clause-error g t c =
     let some : is_null c.args.entry.now.id ≡ false = entry_is_null_of_test _ _ _ _ c.entry.view_is c.is_null.ensures c.if-is_null.false in
     let is : is_tree_mode c.args.entry.now.mode ≡ true = is_tree_mode_of_test _ _ _ _ c.entry.view_is c.is_tree.ensures c.if-not-is_tree.false in
-    error_of_directory (g.S.Store.objects c.args.store.now) (g.S.Store.may_fail c.args.store.now) _ c.args.entry.now c.entry.view_is some is
-    c.is_canonical_tree.result c.is_canonical_tree.ensures.error
+    error_of_directory (g.S.Store.objects c.args.store.now) (g.S.Store.may_fail c.args.store.now) c.args.hash c.args.depth _ c.args.entry.now
+    c.entry.view_is some is (c.is_plain_directory.ensures.0 c.if-not-is_plain_directory.false) c.is_canonical_tree.result c.is_canonical_tree.ensures.error
+
+pub is_canonical_tree-returns-in_err-tree-clause-error : goal.is_canonical_tree-returns-in_err-tree-clause-error
+is_canonical_tree-returns-in_err-tree-clause-error g t c =
+    if_err_weaken c.from_residual.result _ _ c.from_residual.ensures.1
+    (λ error is. subst (IsUnreadBelow (g.S.Store.objects c.args.store.now) (g.S.Store.may_fail c.args.store.now) c.args.hash c.args.depth c.args.id) (sym is)
+    ([], (c.if-depth-eq0.false, c.is_looked_up.ensures.0 c.if-not-is_looked_up.false, c.in_err-tree.ensures.error)))
 
 pub is_canonical_tree-returns-in_err-is_canonical_entry-clause-error : goal.is_canonical_tree-returns-in_err-is_canonical_entry-clause-error
 is_canonical_tree-returns-in_err-is_canonical_entry-clause-error g t c =
@@ -37,8 +43,9 @@ is_canonical_tree-returns-in_err-is_canonical_entry-clause-error g t c =
     let same : items ≡ c.in_ok-tree.tree = c.deref-entry-items.ensures.value ∙ c.tree.view_is in
     let root : IsRoot objects c.args.id items = subst (IsRoot objects c.args.id) (sym same) c.in_ok-tree.ensures.found in
     if_err_weaken c.from_residual-in_err-is_canonical_entry.result _ _ c.from_residual-in_err-is_canonical_entry.ensures.1
-    (λ error is. subst (IsUnreadBelow objects may_fail c.args.id) (sym is)
-    (error_below_tree objects may_fail c.args.id items root c.loop-entry.entry-index c.entry-item.result c.loop-entry-test.true c.entry-item.is
+    (λ error is. subst (IsUnreadBelow objects may_fail c.args.hash c.args.depth c.args.id) (sym is)
+    (error_below_tree objects may_fail c.args.hash c.args.depth c.if-depth-eq0.false c.args.id (c.is_looked_up.ensures.0 c.if-not-is_looked_up.false) items
+    root c.loop-entry.entry-index c.entry-item.result c.loop-entry-test.true c.entry-item.is c.loop-entry.invariant
     c.in_err-is_canonical_entry.field-0.0 c.in_err-is_canonical_entry.ensures.error))
 
 pub is_canonical_tree-returns-then-not-branch-clause-canonical : goal.is_canonical_tree-returns-then-not-branch-clause-canonical

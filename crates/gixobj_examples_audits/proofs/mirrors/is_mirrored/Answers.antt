@@ -5,21 +5,38 @@ use Rattle.gixobj_examples_audits.specs.Canonical.{IsCanonicalRoot}
 use Rattle.gixobj_examples_audits.proofs.mirrors.is_mirrored.Goals as goal
 
 pub returns-in-Ok-false-clause-error : goal.returns-in-Ok-false-clause-error
-returns-in-Ok-false-clause-error g c = inl (
-  refl,
-  λ trees fits is.
-      let yes = ((c.in-Ok-false.ensures {u = tt}).canonical trees fits).1 is in
-      let otherwise = c.in-Ok-false.field-0-test in
-      absurd (cc (yes, otherwise)),
+returns-in-Ok-false-clause-error g c = (
+  c.have_same_kind.ensures.0 c.if-not-have_same_kind.false,
+  inl (
+    refl,
+    λ trees fits is.
+        let yes = ((c.in-Ok-false.ensures {u = tt}).canonical trees fits).1 is in
+        let otherwise = c.in-Ok-false.field-0-test in
+        absurd (cc (yes, otherwise)),
+  ),
 )
 
 pub returns-in-Ok-false-is_canonical-clause-error : goal.returns-in-Ok-false-is_canonical-clause-error
-returns-in-Ok-false-is_canonical-clause-error g c = inr (
-  refl,
-  λ trees fits is.
-      let yes = ((c.in-Ok-false-is_canonical.ensures {u = tt}).canonical trees fits).1 is in
-      let otherwise = c.in-Ok-false-is_canonical.field-0-test in
-      absurd (cc (yes, otherwise)),
+returns-in-Ok-false-is_canonical-clause-error g c = (
+  c.have_same_kind.ensures.0 c.if-not-have_same_kind.false,
+  inr (
+    refl,
+    (λ trees fits. ((c.in-Ok-true.ensures {u = tt}).canonical trees fits).0 c.in-Ok-true.field-0-test),
+    λ trees fits is.
+        let yes = ((c.in-Ok-false-is_canonical.ensures {u = tt}).canonical trees fits).1 is in
+        let otherwise = c.in-Ok-false-is_canonical.field-0-test in
+        absurd (cc (yes, otherwise)),
+  ),
+)
+
+pub returns-in-Err-clause-error : goal.returns-in-Err-clause-error
+returns-in-Err-clause-error g c = (c.have_same_kind.ensures.0 c.if-not-have_same_kind.false, (c.in-Err.ensures {u = tt}).error)
+
+pub returns-in-Err-is_canonical-clause-error : goal.returns-in-Err-is_canonical-clause-error
+returns-in-Err-is_canonical-clause-error g c = (
+  c.have_same_kind.ensures.0 c.if-not-have_same_kind.false,
+  (λ trees fits. ((c.in-Ok-true.ensures {u = tt}).canonical trees fits).0 c.in-Ok-true.field-0-test),
+  (c.in-Err-is_canonical.ensures {u = tt}).error,
 )
 
 pub returns-clause-same : goal.returns-clause-same
