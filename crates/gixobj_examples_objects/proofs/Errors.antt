@@ -1,16 +1,18 @@
 -- Errors of callers, by cases of the errors of their calls.
-use Rattle.std.proofs.Common.{◌≡◌, ℕ, List, Result, Ok, Err, Some, refl, subst}
-use Rattle.std.specs.Prelude.{IfErr, IfOk}
+use Rattle.std.proofs.Common.{◌≡◌, ◌-◌, ℕ, List, [], Result, Ok, Err, Some, refl, subst}
+use Rattle.std.specs.Prelude.{IfErr, IfOk, vec_capacity, vec_len}
 use Rattle.std.specs.declared.alloc.Global.{Global}
 use Rattle.std.specs.declared.vec.Vec.{Vec}
+use Rattle.std.specs.declared.io.ErrorKind.TheVariants as io
 use Rattle.gix_object.specs.Commit.{CommitLines, DecodesToCommit, IsMalformedCommit, IsCommitDecodeError}
 use Rattle.gix_object.specs.Entries.{EntryView}
 use Rattle.gix_object.specs.Hash.{DecodesToId}
 use Rattle.gix_object.specs.Rewriting.{IsNormalizedCommitError}
-use Rattle.gix_object.specs.Streams.{SinkView, list_view}
+use Rattle.gix_object.specs.Streams.{SinkView, empty_sink, list_view}
 use Rattle.gix_object.specs.TokenSearch.{EndsSearch, IsMessageToken, optional_error}
-use Rattle.gix_object.specs.TreeDecoding.{DecodesToTree, IsTreeDecodeError}
-use Rattle.gix_object.specs.Writing.{FailsAsSink}
+use Rattle.gix_object.specs.TreeDecoding.{DecodesToTree, IsMalformedTree, IsTreeDecodeError}
+use Rattle.gix_object.specs.TreeEncoding.{IsEncodableTree, encode_tree}
+use Rattle.gix_object.specs.Writing.{FailsAsSink, IsEncodingError, IsWritingError, RejectedValue}
 use Rattle.gix_object.specs.ref_iter.commit.CommitRefIter.{CommitRefIter}
 use Rattle.gix_object.specs.fields.encode.Error as encode
 use Rattle.gix_object.specs.fields.encode.Error.TheVariants as written
@@ -18,7 +20,7 @@ use Rattle.gix_object.specs.hash.decode.Error.{Error}
 use Rattle.gix_object.specs.hash.decode.Error.TheVariants.{Malformed, OutOfMemory}
 use Rattle.gix_object.specs.hash.hash.kind.Kind.{Kind}
 use Rattle.gix_object.specs.hash.hash.object_id.ObjectId.{ObjectId}
-use Rattle.gixobj_examples_objects.specs.Copies.{FailsForPart, FailsForRoom}
+use Rattle.gixobj_examples_objects.specs.Copies.{FailsForPart, FailsForRoom, IsRoundTripError}
 use Rattle.gixobj_examples_objects.specs.declared.store.CopyError.TheVariants.{Read, Write}
 
 -- the bytes of a commit fail to decode only for memory
@@ -88,3 +90,17 @@ pub tree_fails_for_room : (kind : Kind) (bytes : List ℕ) (entries : List Entry
     → DecodesToTree kind bytes entries → FailsForRoom (Read error)
 tree_fails_for_room kind bytes entries Malformed rejected is = rejected entries is
 tree_fails_for_room kind bytes entries OutOfMemory rejected is = tt
+
+-- the error of writing to a new list is that of the encoding
+pub encoding_error_of_new_list : (Rejects : RejectedValue → List ℕ → Type 0) (bytes : List ℕ) (before after : Vec ℕ Global) (error : encode.Error)
+    → before.items ≡ [] → vec_capacity before - vec_len before ≡ 0 → IsWritingError Rejects (list_view before) (list_view after) bytes error
+    → IsEncodingError Rejects bytes error
+encoding_error_of_new_list Rejects bytes before after error none full is =
+    let same : list_view before ≡ empty_sink = λ i. record { held = Some (none i); room = full i; failure = Some io.OutOfMemory } in
+    (after, subst (λ (view : SinkView). IsWritingError Rejects view (list_view after) bytes error) same is)
+
+-- the error of decoding the encoding of a tree that is encoded
+pub round_trip_error_of_read : (kind : Kind) (entries : List EntryView) (bytes : List ℕ) (error : Error) → bytes ≡ encode_tree entries
+    → IsEncodableTree entries → IsTreeDecodeError kind bytes error → IsRoundTripError kind entries (Read error)
+round_trip_error_of_read kind entries bytes Malformed same encodable rejected = (encodable, subst (IsMalformedTree kind) same rejected)
+round_trip_error_of_read kind entries bytes OutOfMemory same encodable rejected = encodable

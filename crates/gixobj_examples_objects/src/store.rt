@@ -10,9 +10,10 @@ ghost use Rattle.gix_object.specs.Hash.Borrowed.{borrowed_id};
 ghost use Rattle.gix_object.specs.LooseObjects.{IsLooseObject};
 ghost use Rattle.gix_object.specs.Rewriting.{AreNormalizedPartsOfCommit};
 ghost use Rattle.gix_object.specs.TreeDecoding.{DecodesToTree};
+ghost use Rattle.gix_object.specs.TreeEncoding.{IsEncodableTree, encode_tree};
 ghost use Rattle.gix_object.specs.TreeRewriting.{HasCanonicalModes, RoundTrips};
 ghost use Rattle.gix_object.specs.object.object.borrowed.ObjectRef.{ObjectRef};
-ghost use Rattle.gixobj_examples_objects.specs.Copies.{FailsForPart, FailsForRoom};
+ghost use Rattle.gixobj_examples_objects.specs.Copies.{FailsForPart, FailsForRoom, IsRoundTripError};
 ghost use Rattle.gixobj_examples_objects.specs.CopiesById.{IsTakeError};
 
 use gix_object::data::verify;
@@ -133,20 +134,24 @@ pub fn owned_copy_of(alloc: Global, bytes: &[u8], kind: Kind) -> Result<Vec<u8>,
     }
 }
 
-/// Encodes a tree and decodes it again. The result equals the tree if each entry round-trips.
+/// Encodes a tree and returns the tree to which the encoding decodes. It equals the first if each entry
+/// round-trips.
 ///
 /// Allocates the encoding, and the entries of the result.
 ///
 /// # Errors
 ///
 /// - [`CopyError::Write`] if the tree can't be encoded, or allocation fails;
-/// - [`CopyError::Read`] if decoding fails.
+/// - [`CopyError::Read`] if its encoding is that of no tree, or allocation fails.
 ///
 /// If each entry round-trips, the call fails only for memory.
 pub fn round_trip(alloc: Global, tree: &Tree, kind: Kind) -> Result<Tree, CopyError>
     ensures unchanged { IfOk result (λ decoded. All (RoundTrips kind) tree.now
         → decoded ≡ tree.now) }
+    ensures decoded { IfOk result (λ decoded. IsEncodableTree tree.now
+        × DecodesToTree kind (encode_tree tree.now) decoded) }
     ensures error { IfErr result (λ error. All (RoundTrips kind) tree.now → FailsForRoom error) }
+    ensures cause { IfErr result (IsRoundTripError kind tree.now) }
 {
     tree_decodes_uniquely();
     tree_round_trips();
