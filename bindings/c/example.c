@@ -202,13 +202,11 @@ static int edits(void) {
   WANT(EDIT(out, len, first, "remove a//b", more, 256, &more_len) == GIXOBJ_INVALID_NAME && number == 1);
   WANT(EDIT(out, len, first, "leaf a", more, 256, &more_len) == GIXOBJ_IS_DIRECTORY && number == 1);
   WANT(gixobj_edit(3, none, 0, none, 20, none, 0, out, 0, &len, id, 0, &id_len, &number) == GIXOBJ_UNKNOWN_CODE);
-  /* what has length 0 may be NULL */
-  WANT(gixobj_edit(GIXOBJ_SHA1, NULL, 0, none, 20, NULL, 0, out, 256, &len, id, 20, &id_len, &number) == GIXOBJ_DONE);
-  WANT(len == 7 && !memcmp(out, "tree 0", 7) && id_len == 20 && id[0] == 0x4b);
-  WANT(gixobj_edit(GIXOBJ_SHA1, NULL, 0, NULL, 0, NULL, 0, NULL, 0, &len, NULL, 0, &id_len, &number) ==
-       GIXOBJ_MALFORMED);
-  WANT(gixobj_edit(GIXOBJ_SHA1, NULL, 0, none, 20, NULL, 0, NULL, 0, &len, NULL, 0, &id_len, &number) ==
-       GIXOBJ_BUFFER_TOO_SHORT);
+  /* nothing but a root */
+  WANT(EDIT(none, 0, none, "", out, 256, &len) == GIXOBJ_DONE && len == 7 && !memcmp(out, "tree 0", 7));
+  WANT(id_len == 20 && id[0] == 0x4b);
+  WANT(gixobj_edit(GIXOBJ_SHA1, none, 0, none, 0, none, 0, out, 0, &len, id, 0, &id_len, &number) == GIXOBJ_MALFORMED);
+  WANT(EDIT(none, 0, none, "", out, 0, &len) == GIXOBJ_BUFFER_TOO_SHORT);
   return 0;
 }
 

@@ -51,8 +51,7 @@ enum gixobj_edit_status {
  * MALFORMED: the trees are no frames, or the root has not the length of an id; *number is 0.
  * OUT_OF_MEMORY: *number is 0, or that of the first command that fails, or of the last write.
  * UNKNOWN_CODE: all is unchanged. Allocates.
- * Of several faults the first counts: the trees are no frames, there is no root, a line is bad, a command fails.
- * Of trees, root, script, out and id, what has length 0 may be NULL. */
+ * Of several faults the first counts: the trees are no frames, there is no root, a line is bad, a command fails. */
 uint32_t gixobj_edit(uint8_t hash, const uint8_t *trees, size_t trees_len, const uint8_t *root, size_t root_len,
                      const uint8_t *script, size_t script_len, uint8_t *out, size_t out_size, size_t *out_len,
                      uint8_t *id, size_t id_size, size_t *id_len, uint64_t *number);
