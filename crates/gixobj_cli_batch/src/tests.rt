@@ -140,14 +140,14 @@ impl Ended {
 
 /// Runs the program on arguments with spaces between them.
 fn run_on(alloc: Global, arguments: &str, input: &[u8]) -> Result<Ended, AllocError> {
-    let mut words = Vec::new(alloc);
-    for word in arguments.split(' ') {
-        words.push(String::from_str(alloc, word)?)?;
+    let mut parts = Vec::new(alloc);
+    for part in arguments.split(' ') {
+        parts.push(String::from_str(alloc, part)?)?;
     }
     let (mut input, mut output, mut errors) = (input, Vec::new(alloc), Vec::new(alloc));
     let status = engine(
         alloc,
-        words.as_slice(),
+        parts.as_slice(),
         &mut input,
         &mut output,
         &mut errors,

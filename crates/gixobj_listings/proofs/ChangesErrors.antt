@@ -8,7 +8,7 @@ use Rattle.gix_object.specs.Stores.{Objects}
 use Rattle.gix_object.specs.hash.hash.object_id.ObjectId.{ObjectId}
 use Rattle.gixobj_listings.proofs.EntryPairs.{IsAmongPairs, has_entry_if_some}
 use Rattle.gixobj_listings.proofs.PairReturns.{side_of_unless_null}
-use Rattle.gixobj_listings.proofs.WholeMerges.{left_side_of_directory, right_side_of_directory}
+use Rattle.gixobj_listings.proofs.CompleteMerges.{left_side_of_directory, right_side_of_directory}
 use Rattle.gixobj_listings.specs.Changes.{EntryPairView, Merges, side_unless_null}
 use Rattle.gixobj_listings.specs.Differences.{IsChangesError, IsChangesErrorAt, IsDirectoryOfName, LeadsFromPair, LeadsToUnequal, side_list}
 use Rattle.gixobj_listings.specs.Listings.{IsDirectory, IsErrorWithin, IsListError, IsListErrorAt, IsUnread, IsUnreadError, LeadsToDirectory}

@@ -14,4 +14,4 @@ mod StoreChanges
 mod StoreListings
 mod UniqueLogs
 mod Unread
-mod WholeMerges
+mod CompleteMerges

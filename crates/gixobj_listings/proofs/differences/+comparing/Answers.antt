@@ -18,7 +18,7 @@ use Rattle.gixobj_listings.proofs.PairReturns.{added_at_pair, added_in_order, ch
 use Rattle.gixobj_listings.proofs.PairSteps.{left_of_rest, merges_of_nothing, merges_snoc, named_of_starts, right_of_rest, sides_of_first_pair}
 use Rattle.gixobj_listings.proofs.Rooted.{if_err_weaken, if_ok_weaken}
 use Rattle.gixobj_listings.proofs.StoreChanges.{has_changes_at_equal, has_changes_at_files, has_changes_of_roots}
-use Rattle.gixobj_listings.proofs.WholeMerges.{among_between, have_merge}
+use Rattle.gixobj_listings.proofs.CompleteMerges.{among_between, have_merge}
 use Rattle.gixobj_listings.specs.Changes.{AreChangesInOrder, ChangeView, IsChangeOfPairs, ListsChange, with_name_first}
 use Rattle.gixobj_listings.specs.Differences.{IsReadIfAlone, HasChangesAt, IsChangesError, IsChangesErrorAt, pair_view}
 use Rattle.gixobj_listings.specs.Roots.{IsRoot}
@@ -191,11 +191,11 @@ opened_changes-returns-in_err-below-clause-error g t c =
     let sides = sides_of_first_pair left right lefts rights pair first now.left_of now.right_of in
     let pairs = now.merged.0 in
     let more = have_merge pair.left.now pair.right.now in
-    let whole = merges_snoc lefts rights left right pair first pairs now.merged.1 more.0 more.1 in
+    let merged = merges_snoc lefts rights left right pair first pairs now.merged.1 more.0 more.1 in
     if_err_weaken c.from_residual-in_err-below.result _ _ c.from_residual-in_err-below.ensures.1
     (λ error is. subst (IsChangesError objects may_fail c.args.depth c.args.from c.args.to) (sym is)
     (subst (λ n. IsChangesError objects may_fail n c.args.from c.args.to c.in_err-below.field-0.0) depth
-    (changes_error_of_pair objects may_fail (c.args.depth - 1) c.args.from c.args.to lefts rights from to ((pairs ++ pair_view pair ∷ []) ++ more.0) whole
+    (changes_error_of_pair objects may_fail (c.args.depth - 1) c.args.from c.args.to lefts rights from to ((pairs ++ pair_view pair ∷ []) ++ more.0) merged
     (pair_view pair).0 (pair_view pair).1 (among_between pairs (pair_view pair) more.0) sides.0 sides.1
     c.in_err-below.field-0.0 c.in_err-below.ensures.error)))
 

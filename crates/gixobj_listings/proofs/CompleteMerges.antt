@@ -1,4 +1,4 @@
--- The pairs of two whole lists of entries: those so far, the next one, and those that remain; the error of a comparison
+-- The pairs of two complete lists of entries: those so far, the next one, and those that remain; the error of a comparison
 -- uses them.
 use Rattle.std.proofs.Common.{◌≡◌, ◌∙◌, inl, inr, Bool, List, [], ◌∷◌, ◌++◌, ap, refl, subst, sym, Option, Some, None}
 use Rattle.std.specs.Cmp.Lexicographic.{bytes_decides, nat_list_cmp_total, slice_cmp, texts_ties}
