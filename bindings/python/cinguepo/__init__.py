@@ -19,9 +19,9 @@ from ._library import code, digest, error_of, lib, load, plain
 
 __all__ = [
     "LIBRARIES", "Actor", "Entry", "Error", "Hash", "InvalidSizeError", "Kind", "LossyTreeError", "MalformedError",
-    "MissingLibraryError", "MissingTreeError", "NotEncodableError", "ScriptError", "UnknownCodeError", "UnknownKindError", "actor", "check",
-    "commit_header", "commit_signature", "edit", "entries", "loose_header", "message", "object_id", "reencode",
-    "summary", "tag_signature", "tag_tokens", "tokens", "trailers", "unfold", "verify",
+    "MissingLibraryError", "MissingTreeError", "NotEncodableError", "ScriptError", "UnknownCodeError",
+    "UnknownKindError", "actor", "check", "commit_header", "commit_signature", "edit", "entries", "loose_header",
+    "message", "object_id", "reencode", "summary", "tag_signature", "tag_tokens", "tokens", "trailers", "unfold", "verify",
 ]
 
 

@@ -65,9 +65,9 @@ impl std::error::Error for EditError {}
 /// Runs a script on a root, then writes the root, and returns the new trees, as `git update-index` and
 /// `git write-tree`.
 ///
-/// `trees` has the root and the trees on the paths that are edited; [`edit_with`] looks them up. The id of the empty tree is that of a root without
-/// entries. The lines of the script are `upsert KIND ID PATH`, `remove PATH`, `leaf PATH`, `write`, `root` and
-/// `at PREFIX LINE`, as `gixobj help` describes them.
+/// `trees` has the root and the trees on the paths that are edited; [`edit_with`] looks them up. The id of the empty
+/// tree is that of a root without entries. The lines of the script are `upsert KIND ID PATH`, `remove PATH`,
+/// `leaf PATH`, `write`, `root` and `at PREFIX LINE`, as `gixobj help` describes them.
 ///
 /// # Errors
 ///

@@ -242,10 +242,7 @@ fn messages_split() {
     assert_eq!(summary(b"\n\ntitle").as_deref(), Ok(&b""[..]));
     let first = [b"Signed-off-by".to_vec(), b"A <a@b>".to_vec()];
     let second = [b"Acked-by".to_vec(), b"B C".to_vec()];
-    assert_eq!(
-        trailers(bytes).collect::<Vec<_>>(),
-        [Ok(first), Ok(second)]
-    );
+    assert_eq!(trailers(bytes).collect::<Vec<_>>(), [Ok(first), Ok(second)]);
     assert!(trailers(b"").next().is_none());
 }
 
