@@ -9,7 +9,7 @@
 extern "C" {
 #endif
 
-/* Statuses beside those of enum gixobj_status. */
+/* Further statuses, which enum gixobj_status does not have. */
 enum gixobj_edit_status {
   GIXOBJ_BAD_LINE = 12,       /* a line of the script is neither empty nor a command */
   GIXOBJ_INVALID_NAME = 14,   /* a name of a path is empty */

@@ -1,6 +1,6 @@
 """Commands of the module.
 
-  python -m cinguepo audit REPOSITORY..          checks each object, beside git fsck
+  python -m cinguepo audit REPOSITORY..          checks each object, next to git fsck
   python -m cinguepo show REPOSITORY OBJECT      prints the parts of a commit or a tree
   python -m cinguepo trailers REPOSITORY COMMIT  prints the trailers of a commit's message
 

@@ -1,4 +1,4 @@
-"""The audit of a repository: the id, the encoding and the new encoding of each object, beside git fsck.
+"""The audit of a repository: the id, the encoding and the new encoding of each object, next to git fsck.
 
 New encodings are compared if the library has gixobj_c_reencode.
 """

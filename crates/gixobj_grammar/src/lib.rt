@@ -1,6 +1,5 @@
-//! The lines of commits and of tags, the parents and extra headers of commits one by one, the tokens and bodies of
-//! tags, and the search for a header in the encoding of a commit (gitdatamodel, "commits", "tag objects"). The
-//! decoders in crates above share them.
+//! The lines of commits and tags, the tokens and bodies of tags, and the search for a header of a commit (gitdatamodel,
+//! "commits", "tag objects"). The decoders in crates above share them.
 //!
 //! Two calls report whether bytes are the encoding of a commit or of a tag at all, and allocate nothing.
 #![tactic(auto)]
