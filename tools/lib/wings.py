@@ -22,7 +22,6 @@ WINGS = (
     ("Command line", "gixobj gixobj_cli_*"),
     ("Libraries for C", "gixobj_c gixobj_c_*"),
     ("Examples", "gixobj_examples_*"),
-    ("Measurements", "gixobj_bench gixobj_bench_*"),
     ("Tests", "gixobj_tests_*"),
 )
 DOCUMENT = "docs/ARCHITECTURE.md"
