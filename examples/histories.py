@@ -7,10 +7,10 @@ writes FOLDER/FORMAT.batch, the output of `git cat-file --batch-all-objects --ba
 - FORMAT.log: `git log --first-parent`, with id, author and title
 - FORMAT.ls: `git ls-tree -r -z` of the last commit, with a newline for each zero byte
 - FORMAT.diff: `git diff-tree -r -z` from the first commit to the last one, with a tab before each path and a newline after
+- FORMAT.ids: the ids of the last and the first commit
 
 The last commit is a merge. A path has a quote and a letter outside ASCII; a file becomes a symbolic link, another one a
-directory; one entry is a submodule's commit. FOLDER/recorded.rt has the same as constants, for the tests. It is the
-file crates/gixobj_cli_batch/src/recorded.rt.
+directory; one entry is a submodule's commit. `tools/batch-test` compares them with what the program prints.
 """
 
 import os
@@ -19,8 +19,6 @@ import sys
 from recorded import run_git
 
 FORMATS = ["sha1", "sha256"]
-ESCAPES = {10: "\\n", 9: "\\t", 34: '\\"', 92: "\\\\", 0: "\\0"}
-WIDTH = 110
 
 
 def commit(mark, name, seconds, message, parents, changes):
@@ -54,26 +52,6 @@ def history(length):
         file("100644", "q\n", '"quo\\"te \u00e9"'), f"M 160000 {'1' * length} module\n"])
 
 
-def escaped(content):
-    """Bytes as the lines of a byte string."""
-    line = ""
-    for it in content:
-        line += ESCAPES.get(it) or (chr(it) if 32 <= it < 127 else f"\\x{it:02x}")
-        if len(line) >= WIDTH:
-            yield line + "\\"
-            line = ""
-    yield line
-
-
-def constants(records):
-    """The recorded bytes as a module."""
-    yield "//! What git prints of a small history, as examples/histories.py records it."
-    for name, content in records:
-        # (a space at the head of a line would be skipped)
-        lines = ["\\x20" + it[1:] if it.startswith(" ") else it for it in escaped(content)]
-        yield f"\npub(crate) const {name}: &[u8] = b\"\\\n" + "\n".join(lines) + '";'
-
-
 def record(folder, object_format):
     """Makes the repository of a format. Returns the names and the bytes of what is recorded."""
     repository = os.path.join(folder, object_format)
@@ -88,18 +66,15 @@ def record(folder, object_format):
     listed = run_git(repository, "ls-tree", "-r", "-z", "main").replace(b"\0", b"\n")
     parts = run_git(repository, "diff-tree", "-r", "-z", first, tip).split(b"\0")
     changes = b"".join(head + b"\t" + path + b"\n" for head, path in zip(parts[::2], parts[1::2]))
-    for name, content in [("batch", batch), ("log", log), ("ls", listed), ("diff", changes)]:
+    ids = f"{tip}\n{first}\n".encode()
+    for name, content in [("batch", batch), ("log", log), ("ls", listed), ("diff", changes), ("ids", ids)]:
         with open(os.path.join(folder, f"{object_format}.{name}"), "wb") as it:
             it.write(content)
-    records = [("TIP", tip.encode()), ("FIRST", first.encode()), ("BATCH", batch), ("LOG", log), ("LIST", listed),
-               ("DIFF", changes)]
-    return [(f"{object_format.upper()}_{name}", content) for name, content in records]
 
 
 def main(folder):
-    records = [it for object_format in FORMATS for it in record(folder, object_format)]
-    with open(os.path.join(folder, "recorded.rt"), "w", encoding="ascii") as it:
-        it.write("\n".join(constants(records)) + "\n")
+    for object_format in FORMATS:
+        record(folder, object_format)
 
 
 main(sys.argv[1])

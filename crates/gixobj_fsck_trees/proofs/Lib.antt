@@ -4,4 +4,4 @@ mod OctalNumbers
 mod RawEntryParts
 mod TreeLoops
 mod TreeReads
-mod UniqueReads
+pub mod UniqueReads

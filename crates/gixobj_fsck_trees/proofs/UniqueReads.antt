@@ -30,7 +30,7 @@ same_view : (m m' f f' : ℕ) (n n' i i' : List ℕ) → m ≡ m' → f ≡ f' �
 same_view m m' f f' n n' i i' mode first_digit name id = rw (mode, first_digit, name, id) refl
 
 -- an input begins with at most one entry
-raw_entry_unique : (kind : Kind) (input : List ℕ) (a b : RawEntryView) (x y : List ℕ) → BeginsWithRawEntry kind input a x
+pub raw_entry_unique : (kind : Kind) (input : List ℕ) (a b : RawEntryView) (x y : List ℕ) → BeginsWithRawEntry kind input a x
     → BeginsWithRawEntry kind input b y → (a ≡ b) × (x ≡ y)
 raw_entry_unique kind input a b x y first second =
     let digits = split_parts_unique 32 first.digits (after_digits a x) second.digits (after_digits b y)

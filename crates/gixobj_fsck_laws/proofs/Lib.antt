@@ -1,0 +1,4 @@
+mod CanonicalDigits
+mod CleanEntries
+mod CleanOrder
+mod CleanTrees
