@@ -1,0 +1,95 @@
+//! The verdict about an object.
+ghost use Rattle.std.specs.Prelude.{◌↔◌, IfOk, IsTrue, OnErr, true};
+ghost use Rattle.gixobj_fsck_objects.specs.Objects.{IsAcceptedObject, IsAcceptedTree, IsLongTag, IsReceivedObject, MayAllocate};
+ghost use Rattle.gixobj_fsck_tags.specs.Tags.{IsAcceptedTag};
+ghost use Rattle.gixobj_fsck_trees.specs.RawEntries.{BeginsWithSomeRawEntry};
+
+use gixobj_fsck::is_commit_accepted;
+use gixobj_fsck_tags::is_tag_accepted;
+use gixobj_fsck_trees::fsck_tree;
+use gixobj_hash::Kind as ObjectKind;
+use gixobj_hash::hash::Kind;
+use std::alloc::{AllocError, Global};
+
+/// Returns whether git accepts an object: none of its messages counts as an error.
+///
+/// Git has no message about a blob. A strict check makes an error of a warning. Only a tree allocates: the list of
+/// its entries, and the set of their names.
+///
+/// # Errors
+///
+/// [`AllocError`] if an allocation failed, only for a tree that begins with an entry.
+pub fn is_object_accepted(
+    alloc: Global,
+    kind: ObjectKind,
+    hash_kind: Kind,
+    content: &[u8],
+    strict: bool,
+) -> Result<bool, AllocError>
+    ensures found { IfOk result (λ accepted. IsTrue accepted
+        ↔ IsAcceptedObject strict kind hash_kind content.now) }
+    ensures error { OnErr result (MayAllocate kind hash_kind content.now) }
+{
+    match kind {
+        ObjectKind::Tree => is_tree_accepted(alloc, hash_kind, content, strict),
+        ObjectKind::Blob => Ok(true),
+        ObjectKind::Commit => Ok(is_commit_accepted(hash_kind, content, strict)),
+        ObjectKind::Tag => Ok(is_tag_accepted(hash_kind, content, strict)),
+    }
+}
+
+/// Returns whether `git receive-pack` takes an object if `receive.fsckObjects` is set.
+///
+/// The check is strict. Before it git's parser rejects tags that are shorter than any with a name of one byte.
+/// Allocates what [`is_object_accepted`] allocates.
+///
+/// # Errors
+///
+/// [`AllocError`] if an allocation failed, only for a tree that begins with an entry.
+pub fn is_object_received(
+    alloc: Global,
+    kind: ObjectKind,
+    hash_kind: Kind,
+    content: &[u8],
+) -> Result<bool, AllocError>
+    ensures found { IfOk result (λ received. IsTrue received
+        ↔ IsReceivedObject kind hash_kind content.now) }
+    ensures error { OnErr result (MayAllocate kind hash_kind content.now) }
+{
+    match kind {
+        ObjectKind::Tree => is_tree_accepted(alloc, hash_kind, content, true),
+        ObjectKind::Blob => Ok(true),
+        ObjectKind::Commit => Ok(is_commit_accepted(hash_kind, content, true)),
+        ObjectKind::Tag => Ok(is_tag_received(hash_kind, content)),
+    }
+}
+
+/// Returns whether git accepts a tree.
+fn is_tree_accepted(
+    alloc: Global,
+    hash_kind: Kind,
+    content: &[u8],
+    strict: bool,
+) -> Result<bool, AllocError>
+    ensures found { IfOk result (λ accepted. IsTrue accepted
+        ↔ IsAcceptedTree strict hash_kind content.now) }
+    ensures error { OnErr result (BeginsWithSomeRawEntry hash_kind content.now) }
+{
+    let messages = fsck_tree(alloc, content, hash_kind, strict)?;
+    Ok(!messages.has_error(strict))
+}
+
+/// Returns whether git takes a tag.
+fn is_tag_received(hash_kind: Kind, content: &[u8]) -> bool
+    ensures { IsTrue result ↔ (IsLongTag hash_kind content.now
+        × IsAcceptedTag true hash_kind content.now) }
+{
+    is_long_tag(hash_kind, content) && is_tag_accepted(hash_kind, content, true)
+}
+
+/// Returns whether a tag is as long as git's parser requires.
+fn is_long_tag(hash_kind: Kind, content: &[u8]) -> bool
+    ensures { IsTrue result ↔ IsLongTag hash_kind content.now }
+{
+    content.len() >= 2 * hash_kind.len_in_bytes() + 24
+}
