@@ -1,5 +1,6 @@
 //! Sets of messages, one bit for each.
 ghost use Rattle.std.specs.Prelude.{◌≡◌, ◌<◌, ◌^◌, ◌↔◌, IsTrue, MatchOption};
+ghost use Rattle.gixobj_fsck_messages.specs.Messages.{message_count};
 ghost use Rattle.gixobj_fsck_messages.specs.Severities.{IsWorse};
 
 use crate::{Message, MessagesIter, Severity};
@@ -19,6 +20,14 @@ impl Messages {
         ensures { HasNoMessage result }
     {
         Messages { bits: 0 }
+    }
+
+    /// Returns the set as a number, in which bit `n` is that of message number `n`. Allocates nothing.
+    pub fn bits(self) -> u64
+        ensures value { result ≡ self.bits }
+        ensures max { result < 2 ^ message_count }
+    {
+        self.bits
     }
 
     /// Inserts a message. Allocates nothing.
