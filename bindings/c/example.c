@@ -1,6 +1,7 @@
 /* Calls each function once, and compares with what git prints. Prints `ok`, or what differs, with status 1. */
 #include "gixobj.h"
 #include "gixobj_edit.h"
+#include "gixobj_fsck.h"
 #include "gixobj_reencode.h"
 #include <stdio.h>
 #include <string.h>
@@ -293,9 +294,63 @@ static int actors(void) {
   return 0;
 }
 
+/* What git fsck and git fsck --strict report of this object, by messages, and whether they accept it. */
+static int is_report(uint8_t kind, const char *bytes, size_t len, uint8_t strict, uint64_t messages, uint32_t worst,
+                     uint32_t is_accepted) {
+  gixobj_fsck_report report = {9, 9, 9};
+  if (gixobj_fsck(GIXOBJ_SHA1, kind, (const uint8_t *)bytes, len, strict, &report) != GIXOBJ_DONE)
+    return 0;
+  return report.messages == messages && report.worst == worst && report.is_accepted == is_accepted;
+}
+
+#define ID "aaaaaaaaaaaaaaaaaaaa"
+#define PEOPLE "author  <> 1 +0000\ncommitter  <> 1 +0000\n"
+#define TARGET "object " ID ID "\ntype commit\n"
+#define REPORT(kind, it, ...) is_report(kind, it, sizeof(it) - 1, __VA_ARGS__)
+#define BIT(message) ((uint64_t)1 << GIXOBJ_FSCK_##message)
+
+static int fsck(void) {
+  static const char entry[] = "40000 .git\0" ID, two[] = "40000 b\0" ID "40000 .git\0" ID;
+  static const char link[] = "120000 .mailmap\0" ID, zero[] = "tree " ID ID "\n\0", sound[] = "tree " ID ID "\n" PEOPLE;
+  static const char name[] = TARGET "tag a b\ntagger A <a> x\n", forgotten[] = TARGET "tag v\ntagger A <a> x\nx y\n\n";
+  WANT(REPORT(GIXOBJ_TREE, "", 1, 0, 0, 1) && REPORT(GIXOBJ_BLOB, "x", 1, 0, 0, 1));
+  WANT(REPORT(GIXOBJ_TREE, "x", 0, BIT(BAD_TREE), GIXOBJ_SEVERITY_ERROR, 0));
+  WANT(REPORT(GIXOBJ_TREE, entry, 0, BIT(HAS_DOTGIT), GIXOBJ_SEVERITY_WARN, 1));
+  WANT(REPORT(GIXOBJ_TREE, entry, 1, BIT(HAS_DOTGIT), GIXOBJ_SEVERITY_ERROR, 0));
+  WANT(REPORT(GIXOBJ_TREE, two, 0, BIT(HAS_DOTGIT) | BIT(TREE_NOT_SORTED), GIXOBJ_SEVERITY_ERROR, 0));
+  WANT(REPORT(GIXOBJ_TREE, link, 1, BIT(MAILMAP_SYMLINK), GIXOBJ_SEVERITY_INFO, 1));
+  WANT(REPORT(GIXOBJ_COMMIT, sound, 1, 0, 0, 1));
+  WANT(REPORT(GIXOBJ_COMMIT, zero, 0, BIT(NUL_IN_HEADER), GIXOBJ_SEVERITY_FATAL, 0));
+  WANT(REPORT(GIXOBJ_TAG, name, 0, BIT(BAD_TAG_NAME) | BIT(BAD_DATE), GIXOBJ_SEVERITY_ERROR, 0));
+  WANT(REPORT(GIXOBJ_TAG, forgotten, 1, BIT(BAD_DATE), GIXOBJ_SEVERITY_ERROR, 1));
+  return 0;
+}
+
+static int fsck_codes(void) {
+  gixobj_fsck_report report = {9, 9, 9};
+  uint8_t out[24];
+  uint32_t severity = 9;
+  size_t len = 9;
+  memset(out, 'x', 24);
+  WANT(gixobj_fsck(3, GIXOBJ_BLOB, BYTES(""), 0, &report) == GIXOBJ_UNKNOWN_CODE);
+  WANT(gixobj_fsck(GIXOBJ_SHA1, 5, BYTES(""), 0, &report) == GIXOBJ_UNKNOWN_CODE);
+  WANT(gixobj_fsck(GIXOBJ_SHA1, GIXOBJ_BLOB, BYTES(""), 2, &report) == GIXOBJ_UNKNOWN_CODE);
+  WANT(report.messages == 9 && report.worst == 9 && report.is_accepted == 9);
+  WANT(gixobj_fsck_message_name(45, out, 24, &len) == GIXOBJ_UNKNOWN_CODE && len == 9);
+  WANT(gixobj_fsck_message_name(GIXOBJ_FSCK_MISSING_SPACE_BEFORE_EMAIL, out, 22, &len) == GIXOBJ_BUFFER_TOO_SHORT);
+  WANT(len == 23 && out[0] == 'x');
+  WANT(gixobj_fsck_message_name(GIXOBJ_FSCK_MISSING_SPACE_BEFORE_EMAIL, out, 24, &len) == GIXOBJ_DONE);
+  WANT(len == 23 && !memcmp(out, "missingSpaceBeforeEmailx", 24));
+  WANT(gixobj_fsck_severity(45, 0, &severity) == GIXOBJ_UNKNOWN_CODE);
+  WANT(gixobj_fsck_severity(GIXOBJ_FSCK_HAS_DOT, 2, &severity) == GIXOBJ_UNKNOWN_CODE && severity == 9);
+  WANT(gixobj_fsck_severity(GIXOBJ_FSCK_HAS_DOT, 0, &severity) == GIXOBJ_DONE && severity == GIXOBJ_SEVERITY_WARN);
+  WANT(gixobj_fsck_severity(GIXOBJ_FSCK_HAS_DOT, 1, &severity) == GIXOBJ_DONE && severity == GIXOBJ_SEVERITY_ERROR);
+  return 0;
+}
+
 int main(void) {
   if (actors() || ids() || headers() || entries() || modes() || tokens() || tag_tokens() || named_headers() ||
-      buffers() || edits() || lossy_trees() || missing_trees() || writes() || signatures())
+      buffers() || fsck() || fsck_codes() || edits() || lossy_trees() || missing_trees() || writes() || signatures())
     return 1;
   puts("ok");
   return 0;

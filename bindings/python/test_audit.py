@@ -66,12 +66,15 @@ class Sample:
 
     def audit(self, path=""):
         """The status, the faults by id, what is printed of git, and the last line. The malformed commit is always
-        reported."""
+        reported, and no other message of fsck."""
         command = [sys.executable, "-m", "cinguepo", "audit", self.folder]
         env = {**os.environ, "PATH": f"{path}:{os.environ['PATH']}"}
         done = subprocess.run(command, cwd=TOP, capture_output=True, check=False, text=True, env=env)
         assert not done.stderr, done.stderr
         *lines, last = done.stdout.splitlines()
+        message = f"error in commit {self.malformed}: unterminatedHeader"
+        assert lines.count(message) == ("gixobj_c_fsck" in cinguepo.LIBRARIES), done.stdout
+        lines = [it for it in lines if it != message]
         of_git = [it[len("git: "):] for it in lines if it.startswith("git: ")]
         words = [it.partition("; git fsck: ")[0].split(None, 3) for it in lines if not it.startswith("git: ")]
         found = {oid: what for _, oid, _, what in words}
@@ -94,6 +97,24 @@ def test_sound_objects(sample):
     command = [sys.executable, "-m", "cinguepo", "audit", sample.folder]
     done = subprocess.run(command, cwd=TOP, capture_output=True, check=True, text=True)
     assert "22 of 22 objects read: " in done.stdout and ", 0 faulty; " in done.stdout, done.stdout
+
+
+def test_fsck(sample):
+    """A warning doesn't change the status. It is an error in a strict check, as git fsck prints it."""
+    if "gixobj_c_fsck" not in cinguepo.LIBRARIES:
+        return
+    os.remove(sample.loose(sample.malformed))
+    tree = sample.write("tree", b"100644 .git\0" + bytes.fromhex(sample.blob))
+    for options, word, status in ([], "warning", 0), (["--strict"], "error", 1):
+        command = [sys.executable, "-m", "cinguepo", "audit", *options, sample.folder]
+        done = subprocess.run(command, cwd=TOP, capture_output=True, check=False, text=True)
+        message, last = done.stdout.splitlines()
+        assert message == f"{word} in tree {tree}: hasDotgit" and done.returncode == status, done.stdout
+        counts = f"{status} error, {1 - status} warning"
+        assert ", 0 faulty; " in last and f"; fsck: {counts}" in last, last
+        command = ["git", "-C", sample.folder, "fsck", *options]
+        done = subprocess.run(command, capture_output=True, check=False, text=True)
+        assert message in done.stderr and done.returncode == status, done.stderr
 
 
 def test_unknown_kind(sample):
@@ -199,7 +220,7 @@ def test_sha256(sample):
     assert status == 1 and list(found) == [bogus] and last.startswith("23 of 24 objects read: "), found
 
 
-TESTS = (test_sound_objects, test_unknown_kind, test_replaced_objects, test_killed_git, test_loose_objects,
+TESTS = (test_sound_objects, test_fsck, test_unknown_kind, test_replaced_objects, test_killed_git, test_loose_objects,
          test_missing_object, test_pack, test_blocks, test_limit, test_sha256)
 if shutil.which("git"):
     for test in TESTS:

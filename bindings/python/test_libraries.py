@@ -14,6 +14,7 @@ COMMIT = b"tree " + EMPTY.upper().encode() + b"\nauthor" + WHO + b"committer" + 
 NAMES = sys.argv[1:]
 CALLS = {
     "gixobj_c_reencode": lambda: g.reencode(g.Kind.COMMIT, COMMIT) == COMMIT.replace(EMPTY.upper().encode(), EMPTY.encode()),
+    "gixobj_c_fsck": lambda: g.fsck(g.Kind.TREE, b"").accepted,
     "gixobj_c_edit": lambda: g.edit(EMPTY, b"")[0] == EMPTY,
 }
 HOW = "libcinguepo.so has no {}: `make -C bindings/python` builds one that has it"
@@ -35,7 +36,7 @@ import os
 import cinguepo as g
 
 calls = (lambda: g.check(3, b""), lambda: list(g.entries(b"")), lambda: g.message(b""), lambda: g.reencode(3, b""),
-         lambda: g.edit("", b""), lambda: g.LIBRARIES)
+         lambda: g.edit("", b""), lambda: g.fsck(3, b""), lambda: g.LIBRARIES)
 for call in calls:
     try:
         call()
@@ -72,8 +73,8 @@ def test_without_shared_library():
 
 
 def test_audit():
-    """The audit reports a malformed commit, and one that re-encodes differently. Without gixobj_c_reencode its last line says
-    how to compare encodings."""
+    """The audit reports a malformed commit, and one that re-encodes differently. Without a library its last line says
+    what that would check, and how to build it."""
     if not shutil.which("git"):
         return
     with tempfile.TemporaryDirectory() as folder:
@@ -89,14 +90,22 @@ def test_audit():
         commit, malformed = (git("hash-object", "-w", "--literally", "-t", "commit", "--stdin", data=data)
                              for data in (COMMIT, COMMIT[:60]))
         done = subprocess.run(command, cwd=top, capture_output=True, check=False, text=True)
+        command[-1:] = ["--strict", folder]
+        strict = subprocess.run(command, cwd=top, capture_output=True, check=False, text=True)
     assert done.returncode == 1 and not done.stderr, done.stderr
-    *faults, last = done.stdout.splitlines()
+    *lines, last = done.stdout.splitlines()
+    has_fsck, how = "gixobj_c_fsck" in NAMES, HOW.format("gixobj_c_fsck")
+    messages = [it for it in lines if it.startswith(("error in ", "warning in "))]
+    assert messages == [f"error in commit {malformed}: unterminatedHeader"] * has_fsck, messages
+    assert ("; fsck: 1 error, 0 warning" in last) == has_fsck and (f"; no fsck: {how}" in last) != has_fsck, last
+    assert strict.returncode == 1 and strict.stderr == ("" if has_fsck else f"cinguepo: {how}\n"), strict.stderr
+    faults = [it for it in lines if it not in messages]
     found = {oid: what for _, oid, _, what in (line.partition(";")[0].split(None, 3) for line in faults)}
     wanted = {malformed: "malformed"}
     if "gixobj_c_reencode" in NAMES:
         wanted[commit] = "re-encodes differently"
     else:
-        assert last.endswith("; encodings weren't compared: " + HOW.format("gixobj_c_reencode")), last
+        assert "; encodings weren't compared: " + HOW.format("gixobj_c_reencode") in last, last
     assert found == wanted, found
     assert last.startswith(f"{folder}: ") and f" {len(wanted)} faulty; " in last, last
     assert ("compared" in last) == ("gixobj_c_reencode" not in NAMES), last

@@ -7,7 +7,7 @@ fn main() {
     let folder = var("CINGUEPO_LIB").expect("CINGUEPO_LIB names the folder of the archives");
     println!("cargo:rustc-link-search=native={folder}");
     link(&folder, "gixobj_c", "`tools/archive gixobj_c` makes it");
-    for feature in ["reencode", "edit"] {
+    for feature in ["reencode", "fsck", "edit"] {
         if var_os(format!("CARGO_FEATURE_{}", feature.to_uppercase())).is_some() {
             let name = format!("gixobj_c_{feature}");
             let how = format!("`tools/archive {name}` makes it, for the feature `{feature}`");

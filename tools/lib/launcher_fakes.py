@@ -26,6 +26,7 @@ gixobj: left right
 gixobj_cli_batch: right
 gixobj_c staticlib: left
 gixobj_c_reencode staticlib: right
+gixobj_c_fsck staticlib: left
 gixobj_c_edit staticlib: left right
 """
 SECONDS = 120

@@ -1,9 +1,9 @@
-"""Proved decoders of git's objects: a module over the static libraries gixobj_c, gixobj_c_reencode and gixobj_c_edit, by
-ctypes alone.
+"""Proved decoders of git's objects: a module over the static libraries gixobj_c, gixobj_c_reencode, gixobj_c_fsck and
+gixobj_c_edit, by ctypes alone.
 
 Input is `bytes`, which the library reads in place. Parts of objects are slices of it. `LIBRARIES` are the names of the
-static libraries that are there: `reencode` and `edit` raise MissingLibraryError without theirs. Without the shared
-library each call and `LIBRARIES` raise it.
+static libraries that are there: `reencode`, `fsck` and `edit` raise MissingLibraryError without theirs. Without the
+shared library each call and `LIBRARIES` raise it.
 
 Calls take numbers of hash functions and kinds. UnknownCodeError is raised for an unknown one.
 """
@@ -16,12 +16,14 @@ from . import _library as raw
 from ._library import Error, InvalidSizeError, LossyTreeError, MalformedError, MissingLibraryError, MissingTreeError
 from ._library import NotEncodableError, ScriptError, UnknownCodeError, UnknownKindError
 from ._library import code, digest, error_of, lib, load, plain
+from ._messages import Finding, Message, Report, Severity, report_of
 
 __all__ = [
-    "LIBRARIES", "Actor", "Entry", "Error", "Hash", "InvalidSizeError", "Kind", "LossyTreeError", "MalformedError",
-    "MissingLibraryError", "MissingTreeError", "NotEncodableError", "ScriptError", "UnknownCodeError",
-    "UnknownKindError", "actor", "check", "commit_header", "commit_signature", "edit", "entries", "loose_header",
-    "message", "object_id", "reencode", "summary", "tag_signature", "tag_tokens", "tokens", "trailers", "unfold", "verify",
+    "LIBRARIES", "Actor", "Entry", "Error", "Finding", "Hash", "InvalidSizeError", "Kind", "LossyTreeError",
+    "MalformedError", "Message", "MissingLibraryError", "MissingTreeError", "NotEncodableError", "Report", "ScriptError",
+    "Severity", "UnknownCodeError", "UnknownKindError", "actor", "check", "commit_header", "commit_signature", "edit",
+    "entries", "fsck", "loose_header", "message", "object_id", "reencode", "summary", "tag_signature", "tag_tokens",
+    "tokens", "trailers", "unfold", "verify",
 ]
 
 
@@ -91,6 +93,17 @@ def check(kind: int, data: bytes, hash: int = Hash.SHA1) -> bool:
     if status not in (raw.DONE, raw.MALFORMED):
         raise error_of(status)
     return status == raw.DONE
+
+
+def fsck(kind: int, data: bytes, strict: bool = False, hash: int = Hash.SHA1) -> Report:
+    """Git's messages about an object, as `git fsck` reports them, or with strict `git fsck --strict`. There are none
+    about a blob. The parser of git runs before its fsck, and rejects some malformed commits and tags without a message.
+    Needs gixobj_c_fsck."""
+    out = raw.FsckReport()
+    status = lib.gixobj_fsck(code(hash), code(kind), plain(data), len(data), bool(strict), byref(out))
+    if status:
+        raise error_of(status)
+    return report_of(out, strict)
 
 
 def loose_header(data: bytes) -> tuple[Kind, int, int]:

@@ -1,10 +1,15 @@
 """Commands of the module.
 
-  python -m cinguepo audit REPOSITORY..          checks each object, next to git fsck
-  python -m cinguepo show REPOSITORY OBJECT      prints the parts of a commit or a tree
-  python -m cinguepo trailers REPOSITORY COMMIT  prints the trailers of a commit's message
+  python -m cinguepo audit [--strict] REPOSITORY..  checks each object, next to git fsck
+  python -m cinguepo show REPOSITORY OBJECT         prints the parts of a commit or a tree
+  python -m cinguepo trailers REPOSITORY COMMIT     prints the trailers of a commit's message
 
-The status of audit is 0 if git lists and reads all objects of each repository, and none has a fault. Otherwise it is 1.
+An audit prints git's messages about objects as `git fsck` does; with --strict, as `git fsck --strict`. It needs the
+static library gixobj_c_fsck for them, and gixobj_c_reencode to compare encodings. It says which is missing; without
+gixobj_c_fsck --strict fails.
+
+The status of audit is 0 if git lists and reads all objects of each repository, none has a fault, and none has a message
+for which git rejects it. Otherwise it is 1.
 """
 import subprocess
 import sys
@@ -47,8 +52,10 @@ def main(arguments: list[str]) -> int:
         print(__doc__.strip())
         return 0
     command, *words = arguments or [""]
-    if command == "audit" and words:
-        return max([audit(folder) for folder in words])
+    strict = words[:1] == ["--strict"]
+    folders = words[strict:]
+    if command == "audit" and folders:
+        return max([audit(folder, strict) for folder in folders])
     if command in ("show", "trailers") and len(words) == 2:
         show(*words, only_trailers=command == "trailers")
         return 0

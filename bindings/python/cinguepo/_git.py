@@ -98,10 +98,10 @@ class Repository:
             errors.seek(0)
             self.keep_failure("cat-file", run.returncode, errors.read())
 
-    def reports(self) -> dict[str, set[str]]:
+    def reports(self, strict: bool = False) -> dict[str, set[str]]:
         """What git fsck reports of each object."""
         found = collections.defaultdict(set)
-        command = self.command("fsck", "--full", "--no-dangling", "--no-progress")
+        command = self.command("fsck", "--full", "--no-dangling", "--no-progress", *["--strict"] * strict)
         done = subprocess.run(command, capture_output=True, check=False, env=ENVIRONMENT)
         for line in (done.stdout + done.stderr).decode(errors="replace").splitlines():
             if report := re.match(r"(error|warning) in (\w+) ([0-9a-f]+): (\w+)", line):

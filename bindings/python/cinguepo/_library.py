@@ -1,4 +1,5 @@
-"""The shared library of gixobj_c, gixobj_c_reencode and gixobj_c_edit: its structs, its declarations and its errors."""
+"""The shared library of gixobj_c, gixobj_c_reencode, gixobj_c_fsck and gixobj_c_edit: its structs, its declarations and
+its errors."""
 import ctypes
 import functools
 import os
@@ -49,6 +50,10 @@ class Actor(Structure):
 
 class Message(Structure):
     _fields_ = [("title", Span), ("body", Span), ("has_body", c_uint32)]
+
+
+class FsckReport(Structure):
+    _fields_ = [("messages", c_uint64), ("worst", c_uint32), ("is_accepted", c_uint32)]
 
 
 class Error(Exception):
@@ -143,6 +148,9 @@ FUNCTIONS = {
     "gixobj_verify": [c_uint8, c_uint8, *_BYTES, *_BYTES],
     "gixobj_check": [c_uint8, c_uint8, *_BYTES],
     "gixobj_reencode": [c_uint8, c_uint8, *_BYTES, *_BUFFER, _LEN],
+    "gixobj_fsck": [c_uint8, c_uint8, *_BYTES, c_uint8, POINTER(FsckReport)],
+    "gixobj_fsck_message_name": [c_uint8, *_BUFFER, _LEN],
+    "gixobj_fsck_severity": [c_uint8, c_uint8, POINTER(c_uint32)],
     "gixobj_loose_header": [*_BYTES, POINTER(LooseHeader)],
     "gixobj_tree_entry": [c_uint8, *_BYTES, c_size_t, POINTER(TreeEntry)],
     "gixobj_tree_entries": [c_uint8, *_BYTES, c_size_t, POINTER(TreeEntry), c_size_t, _LEN],
@@ -159,8 +167,12 @@ FUNCTIONS = {
 }
 
 
-# static libraries that may be missing, each with its one call
-OPTIONAL = {"gixobj_c_reencode": "gixobj_reencode", "gixobj_c_edit": "gixobj_edit"}
+# static libraries that may be missing, each with its calls
+OPTIONAL = dict(
+    gixobj_c_reencode=("gixobj_reencode",),
+    gixobj_c_fsck=("gixobj_fsck", "gixobj_fsck_message_name", "gixobj_fsck_severity"),
+    gixobj_c_edit=("gixobj_edit",),
+)
 
 
 def _missing(library: str) -> Callable[..., int]:
@@ -178,8 +190,8 @@ def load() -> tuple[dict[str, Callable[..., int]], tuple[str, ...]]:
     folder = os.path.dirname(os.path.abspath(__file__))
     try:
         shared = ctypes.CDLL(os.environ.get("CINGUEPO_LIB", os.path.join(folder, "libcinguepo.so")))
-        missing = [name for name, call in OPTIONAL.items() if not hasattr(shared, call)]
-        calls = {OPTIONAL[name]: _missing(name) for name in missing}
+        missing = [name for name, calls in OPTIONAL.items() if not hasattr(shared, calls[0])]
+        calls = {call: _missing(name) for name in missing for call in OPTIONAL[name]}
         calls.update((name, getattr(shared, name)) for name in FUNCTIONS if name not in calls)
     except (AttributeError, OSError) as error:
         raise MissingLibraryError("gixobj_c", str(error)) from error

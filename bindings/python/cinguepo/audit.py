@@ -1,19 +1,20 @@
-"""The audit of a repository: the id, the encoding and the new encoding of each object, next to git fsck.
+"""The audit of a repository: the id, the encoding, the new encoding and the messages of each object, next to git fsck.
 
-New encodings are compared if the library has gixobj_c_reencode.
+New encodings are compared if the library has gixobj_c_reencode, and messages reported if it has gixobj_c_fsck.
 """
 import collections
 import subprocess
 import sys
 import time
-from typing import Iterable
+from typing import Iterable, Optional
 
 from . import Hash, Kind, MalformedError, MissingLibraryError, NotEncodableError
-from . import check, entries, reencode, tokens, verify
+from . import check, entries, fsck, reencode, tokens, verify
+from . import Report as Messages
 from ._git import Object, Repository
 from ._library import load
 
-ENCODER = "gixobj_c_reencode"
+ENCODER, FSCK = "gixobj_c_reencode", "gixobj_c_fsck"
 KINDS = {"commit": Kind.COMMIT, "tree": Kind.TREE, "blob": Kind.BLOB, "tag": Kind.TAG}
 
 
@@ -51,19 +52,30 @@ def faults_of(it: Object, hash: Hash) -> list[str]:
     return faults(it.id, KINDS[it.kind], it.content, hash) if it.kind in KINDS else ["unknown kind"]
 
 
+def messages_of(it: Object, strict: bool, hash: Hash) -> Optional[Messages]:
+    """Git's messages about what git read, or None without the library or the content."""
+    if FSCK not in load()[1] or it.problem or it.kind not in KINDS:
+        return None
+    return fsck(KINDS[it.kind], it.content, strict, hash)
+
+
 class Report:
-    """The counts of an audit. It prints each object with a fault, next to what git fsck reports of it."""
+    """The counts of an audit. It prints each object with a fault, next to what git fsck reports of it, and its messages
+    as git fsck does."""
 
     def __init__(self, reports: dict[str, set[str]]):
         self.reports = reports
         self.kinds: collections.Counter[str] = collections.Counter()
-        self.size = self.faulty = 0
+        self.lines: collections.Counter[str] = collections.Counter()
+        self.size = self.faulty = self.rejected = 0
         self.shown = time.monotonic()
 
-    def add(self, it: Object, found: Iterable[str]) -> None:
+    def add(self, it: Object, found: Iterable[str], messages: Optional[Messages]) -> None:
         self.kinds[it.kind or "unreadable"] += 1
         self.size += len(it.content)
         self.add_faults(it.kind, it.id, found)
+        if messages:
+            self.add_messages(it, messages)
         if sys.stderr.isatty() and time.monotonic() - self.shown > 1:
             self.shown = time.monotonic()
             print(f"\r{sum(self.kinds.values())} objects", end="\r", file=sys.stderr)
@@ -75,6 +87,13 @@ class Report:
             print(f"{kind or 'object':6} {oid} here: {what}; git fsck: {fsck}")
 
 
+    def add_messages(self, it: Object, messages: Messages) -> None:
+        self.rejected += not messages.accepted
+        for finding in messages.findings:
+            self.lines[str(finding.severity)] += 1
+            print(f"{finding.severity} in {it.kind} {it.id}: {finding.message}")
+
+
 def hash_of(folder: str) -> Hash:
     """The hash function of a repository. Ends the program if git finds none."""
     command = ["git", "-C", folder, "rev-parse", "--show-object-format"]
@@ -84,14 +103,26 @@ def hash_of(folder: str) -> Hash:
     return Hash.SHA256 if done.stdout.strip() == b"sha256" else Hash.SHA1
 
 
-def audit(folder: str) -> int:
-    """Prints each object with a fault, then each failure of git, then a line of counts, which also says if encodings
-    weren't compared. The status is 0 if git lists and reads all objects, and none has a fault; otherwise it is 1."""
-    hash, has_encoder, repository = hash_of(folder), ENCODER in load()[1], Repository(folder)
-    report, ids = Report(repository.reports()), repository.ids()
+def notes(report: Report) -> str:
+    """The numbers of messages, and what the audit leaves out without a library."""
+    libraries = load()[1]
+    found = f"; fsck: {report.lines['error']} error, {report.lines['warning']} warning" if FSCK in libraries else ""
+    absent = {ENCODER: "encodings weren't compared", FSCK: "no fsck"}
+    return found + "".join(f"; {what}: {MissingLibraryError(it)}" for it, what in absent.items() if it not in libraries)
+
+
+def audit(folder: str, strict: bool = False) -> int:
+    """Prints each object with a fault and each message of fsck, then each failure of git, then a line of counts, which
+    also says what wasn't checked for want of a library. The status is 0 if git lists and reads all objects, none has a
+    fault, and git accepts each; otherwise it is 1. A strict check makes errors of warnings. Without gixobj_c_fsck it
+    raises MissingLibraryError."""
+    if strict and FSCK not in load()[1]:
+        raise MissingLibraryError(FSCK)
+    hash, repository = hash_of(folder), Repository(folder)
+    report, ids = Report(repository.reports(strict)), repository.ids()
     start = time.monotonic()
     for it in repository.objects(ids):
-        report.add(it, faults_of(it, hash))
+        report.add(it, faults_of(it, hash), messages_of(it, strict, hash))
     seconds = time.monotonic() - start
     missing = {oid for oid, found in report.reports.items() if "missing" in found}.difference(ids)
     for oid in sorted(missing):
@@ -100,9 +131,8 @@ def audit(folder: str) -> int:
         print(f"git: {message}")
     read = sum(report.kinds.values()) - report.kinds["unreadable"]
     names = ", ".join(f"{count} {name}" for name, count in report.kinds.items() if count)
-    note = "" if has_encoder else f"; encodings weren't compared: {MissingLibraryError(ENCODER)}"
     print(
         f"{folder}: {read} of {len(ids) + len(missing)} objects read: {names or 'none'}, {report.faulty} faulty; "
-        f"{report.size / 1e6:.1f} MB in {seconds:.2f} s{note}"
+        f"{report.size / 1e6:.1f} MB in {seconds:.2f} s{notes(report)}"
     )
-    return 1 if report.faulty or repository.failures or read != len(ids) else 0
+    return 1 if report.faulty or report.rejected or repository.failures or read != len(ids) else 0

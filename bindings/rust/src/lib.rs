@@ -1,10 +1,10 @@
 //! Proved decoders of git's objects: safe Rust over the static libraries `gixobj_c`,
-//! `gixobj_c_reencode` and `gixobj_c_edit`.
+//! `gixobj_c_reencode`, `gixobj_c_fsck` and `gixobj_c_edit`.
 //!
 //! Nothing is kept between two calls. Slices in results borrow the input.
 //!
-//! The features `reencode` and `edit`, both on by default, have the calls of these names. Without them `gixobj_c` is
-//! enough.
+//! The features `reencode`, `fsck` and `edit`, all on by default, have the calls of these names. Without them
+//! `gixobj_c` is enough.
 #![deny(unsafe_op_in_unsafe_fn, missing_docs)]
 
 mod actors;
@@ -15,6 +15,8 @@ mod edits;
 #[cfg(feature = "reencode")]
 mod encodings;
 mod error;
+#[cfg(feature = "fsck")]
+pub mod fsck;
 mod messages;
 mod objects;
 mod raw;
@@ -28,6 +30,8 @@ pub use edits::{EditError, Edited, edit, edit_with};
 #[cfg(feature = "reencode")]
 pub use encodings::reencode;
 pub use error::Error;
+#[cfg(feature = "fsck")]
+pub use fsck::fsck;
 pub use messages::{Trailers, commit_signature, message, summary, tag_signature, trailers};
 pub use objects::{HashKind, Id, Kind, check, id, loose_header, verify};
 pub use tags::{TagToken, TagTokens, tag_tokens};

@@ -67,6 +67,15 @@ pub struct Message {
     pub has_body: u32,
 }
 
+#[cfg(feature = "fsck")]
+#[repr(C)]
+#[derive(Clone, Copy, Default)]
+pub struct FsckReport {
+    pub messages: u64,
+    pub worst: u32,
+    pub is_accepted: u32,
+}
+
 unsafe extern "C" {
     pub fn gixobj_id(
         hash: u8,
@@ -95,6 +104,24 @@ unsafe extern "C" {
         size: usize,
         out_len: *mut usize,
     ) -> u32;
+    #[cfg(feature = "fsck")]
+    pub fn gixobj_fsck(
+        hash: u8,
+        kind: u8,
+        bytes: *const u8,
+        len: usize,
+        strict: u8,
+        out: *mut FsckReport,
+    ) -> u32;
+    #[cfg(all(feature = "fsck", test))]
+    pub fn gixobj_fsck_message_name(
+        message: u8,
+        out: *mut u8,
+        size: usize,
+        out_len: *mut usize,
+    ) -> u32;
+    #[cfg(feature = "fsck")]
+    pub fn gixobj_fsck_severity(message: u8, strict: u8, severity: *mut u32) -> u32;
     pub fn gixobj_loose_header(input: *const u8, len: usize, out: *mut LooseHeader) -> u32;
     pub fn gixobj_tree_entry(
         hash: u8,
