@@ -1,5 +1,6 @@
 -- The messages of git-fsck, their names (git-fsck, "FSCK MESSAGES") and their numbers.
-use Rattle.std.specs.Prelude.{ℕ, List, [], ◌∷◌, codes}
+use Rattle.std.specs.Prelude.{◌≡◌, ℕ, List, [], ◌∷◌, codes, map}
+use Rattle.std.specs.Char.{to_ascii_lowercase}
 use Rattle.gixobj_fsck_messages.specs.declared.message.Message.{Message}
 use Rattle.gixobj_fsck_messages.specs.declared.message.Message.TheVariants as message
 
@@ -50,6 +51,14 @@ message_name message.BadDate = codes "badDate"
 message_name message.BadTimezone = codes "badTimezone"
 message_name message.ExtraHeaderEntry = codes "extraHeaderEntry"
 message_name message.UnknownType = codes "unknownType"
+
+-- the message has this name, in any case of the letters
+abbrev pub NamesMessage : List ℕ → Message → Type 0
+NamesMessage name it = map to_ascii_lowercase (message_name it) ≡ map to_ascii_lowercase name
+
+-- no message has this name, in any case of the letters
+abbrev pub NamesNoMessage : List ℕ → Type 0
+NamesNoMessage name = (it : Message) → ¬ NamesMessage name it
 
 -- the number of a message, in the order in which git reports the messages of one object
 abbrev pub message_number : Message → ℕ

@@ -1,10 +1,13 @@
 //! Messages, their names and their numbers.
 ghost use Rattle.std.specs.Prelude.{◌≡◌, ◌<◌, ◌≤◌, IfSome, MatchOption};
-ghost use Rattle.gixobj_fsck_messages.specs.Messages.{message_count, message_name, message_number};
+ghost use Rattle.gixobj_fsck_messages.specs.Messages.{NamesMessage, NamesNoMessage, message_count, message_name, message_number};
 ghost use Rattle.gixobj_fsck_messages.specs.Severities.{documented_severity, made_strict, severity_of};
 
 use crate::Severity;
 use std::fmt;
+
+/// How many messages there are.
+const MESSAGE_COUNT: u8 = 45;
 
 /// A message of `git fsck` about one tree, commit or tag (`git-fsck`, "FSCK MESSAGES").
 ///
@@ -217,6 +220,21 @@ impl Message {
             44 => Some(Message::UnknownType),
             _ => None,
         }
+    }
+
+    /// Returns the message of this name in any case of its letters, or `None` if there is none.
+    ///
+    /// Git takes names so (`git-config`, `fsck.<msg-id>`). Allocates nothing.
+    pub fn from_name(name: &[u8]) -> Option<Message>
+        ensures { MatchOption result (NamesNoMessage name.now) (NamesMessage name.now) }
+    {
+        for number in 0..MESSAGE_COUNT {
+            let message = Message::from_number(number)?;
+            if message.as_str().as_bytes().eq_ignore_ascii_case(name) {
+                return Some(message);
+            }
+        }
+        None
     }
 
     /// Returns the severity of the message. A strict check makes an error of a warning. Allocates nothing.
