@@ -1,3 +1,4 @@
+mod BackslashCounts
 mod Either
 mod HfsNames
 mod NamesByByte

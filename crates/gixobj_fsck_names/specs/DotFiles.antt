@@ -35,6 +35,10 @@ IsFileOnNtfs file beginning hash name = IsOnNtfs false name file ⊎ IsShortName
 abbrev pub IsGitModulesOnNtfs : List ℕ → Type 0
 IsGitModulesOnNtfs = IsFileOnNtfs (codes ".gitmodules") (codes "gitmod~") (codes "gi7eba")
 
+-- a file system takes the name for `.gitmodules`, backslashes aside
+abbrev pub IsGitModulesFile : List ℕ → Type 0
+IsGitModulesFile name = IsOnHfs name (codes ".gitmodules") ⊎ IsGitModulesOnNtfs name
+
 -- a file system takes the name for `.gitmodules`, or NTFS takes what follows a backslash in it for that: `.GITMODULES`,
 -- `gitmod~1`, `a\.gitmodules`
 abbrev pub IsGitModules : List ℕ → Type 0

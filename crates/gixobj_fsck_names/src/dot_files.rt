@@ -1,7 +1,8 @@
 //! Names of the files that git reads from trees.
-ghost use Rattle.std.specs.Prelude.{◌⊎◌, ◌↔◌, IsTrue};
-ghost use Rattle.gixobj_fsck_names.specs.DotFiles.{IsFileOnNtfs, IsGitAttributes, IsGitIgnore, IsGitModules, IsGitModulesOnNtfs, IsMailmap};
-ghost use Rattle.gixobj_fsck_names.specs.DotGit.{HasAfterBackslash};
+ghost use Rattle.std.specs.Prelude.{◌≡◌, ◌⊎◌, ◌↔◌, IsTrue};
+ghost use Rattle.gixobj_fsck_names.specs.DotFiles.{IsFileOnNtfs, IsGitAttributes, IsGitIgnore, IsGitModules, IsGitModulesFile, IsGitModulesOnNtfs, IsMailmap};
+ghost use Rattle.gixobj_fsck_names.specs.DotGit.{HasAfterBackslash, IsCountAfterBackslashes};
+ghost use Rattle.gixobj_fsck_names.specs.Letters.{backslash};
 ghost use Rattle.gixobj_fsck_names.specs.Walks.{FindsBackslash};
 
 use crate::hfs::is_on_hfs;
@@ -14,6 +15,35 @@ pub fn is_git_modules(name: &[u8]) -> bool
     ensures { IsTrue result ↔ IsGitModules name.now }
 {
     is_on_hfs(name, b".gitmodules") || is_git_modules_on_windows(name)
+}
+
+/// Returns whether HFS+ or NTFS takes the name for `.gitmodules`. Backslashes don't count.
+pub fn is_git_modules_file(name: &[u8]) -> bool
+    ensures { IsTrue result ↔ IsGitModulesFile name.now }
+{
+    is_on_hfs(name, b".gitmodules") || is_git_modules_on_ntfs(name)
+}
+
+/// Returns how many backslashes of the name have a rest that NTFS takes for `.gitmodules`.
+pub fn count_git_modules_after_backslashes(name: &[u8]) -> usize
+    ensures { IsCountAfterBackslashes IsGitModulesOnNtfs name.now result }
+{
+    let mut count = 0;
+    let mut rest = name;
+    while let Some((byte, after)) = rest.split_first() {
+        if is_git_modules_after(*byte, after) {
+            count += 1;
+        }
+        rest = after;
+    }
+    count
+}
+
+/// Returns whether the byte is a backslash before what NTFS takes for `.gitmodules`.
+fn is_git_modules_after(byte: u8, rest: &[u8]) -> bool
+    ensures { IsTrue result ↔ ((byte ≡ backslash) × IsGitModulesOnNtfs rest.now) }
+{
+    byte == b'\\' && is_git_modules_on_ntfs(rest)
 }
 
 /// Returns whether HFS+ or NTFS takes the name for `.gitattributes` (git-fsck, `gitattributesSymlink`).
