@@ -9,7 +9,7 @@ use Rattle.gixobj_fsck_messages.specs.declared.message.Message.TheVariants as me
 use Rattle.gixobj_hash.proofs.Splits.{split_parts_unique}
 use Rattle.gixobj_hash.specs.ByteStrings.{IsByteFree}
 use Rattle.gixobj_hash.specs.Hash.{id_bytes, id_from}
-use Rattle.gixobj_hash.specs.Runs.{Ending, broken, complete, yields_end, yields_piece}
+use Rattle.gixobj_hash.specs.Runs.{Ending, Yields, broken, complete, yields_end, yields_piece}
 use Rattle.gixobj_hash.specs.declared.hash.kind.Kind.{Kind}
 use Rattle.gixobj_tree_entries.proofs.ByteSix.{encode_mode_has_six_digits}
 use Rattle.gixobj_tree_entries.proofs.EncodedModes.{octal_digits_space_free}
@@ -17,9 +17,9 @@ use Rattle.gixobj_tree_entries.specs.Entries.{EntryView}
 use Rattle.gixobj_tree_entries.specs.Mode.{encode_mode}
 use Rattle.gixobj_tree.specs.Rewriting.{DecodesToCanonicalEntry, HasCanonicalModes}
 use Rattle.gixobj_tree.specs.WellFormed.{IsEntryName}
-use Rattle.gixobj_fsck_trees.proofs.UniqueReads.{raw_entry_unique}
+use Rattle.gixobj_fsck_trees.proofs.UniqueReads.{raw_entry_parts_unique}
 use Rattle.gixobj_fsck_trees.specs.EntryMessages.{HasBadMode, HasEntryMessage}
-use Rattle.gixobj_fsck_trees.specs.RawEntries.{BeginsWithRawEntry, RawEntryView, ReadsTree, YieldsRawEntries}
+use Rattle.gixobj_fsck_trees.specs.RawEntries.{BeginsWithRawEntry, RawEntryStep, RawEntryView, ReadsTree, YieldsRawEntries}
 use Rattle.gixobj_fsck_trees.specs.TreeMessages.{HasEntry, HasNameTwice, HasStepDown, ReportsOfTree}
 use Rattle.gixobj_fsck_laws.proofs.CanonicalDigits.{canonical_digits, git_mode_decodes}
 use Rattle.gixobj_fsck_laws.proofs.CleanEntries.{IsCleanEntry, decoded_view, entry_name_of_clean, first_digit_of_clean, git_mode_of_clean, id_from_bytes, is_id_of_bytes, none_has_bad_mode, none_has_message, safe_of_clean}
@@ -72,13 +72,10 @@ small_first : (kind : Kind) (input rest : List ℕ) (e : RawEntryView) (has : Be
     → HaveSmallModes kind input → (digits_value 8 has.digits < 2 ^ 16) × HaveSmallModes kind rest
 small_first kind _ rest e has no_entry = absurd (not_nil has.digits (e.name ++ 0 ∷ (e.id ++ rest)) has.joined)
 small_first kind _ rest e has (next_entry input rest' e' begins low more) =
-    let digits = split_parts_unique 32 begins.digits (e'.name ++ 0 ∷ (e'.id ++ rest')) has.digits (e.name ++ 0 ∷ (e.id ++ rest))
-    (octal_digits_space_free begins.digits begins.octal.1) (octal_digits_space_free has.digits has.octal.1)
-    (sym begins.joined ∙ has.joined) in
-    let same = raw_entry_unique kind input e' e rest' rest begins has in
+    let same = raw_entry_parts_unique kind input e' e rest' rest begins has in
     let P : List ℕ → Type 0 = λ it. digits_value 8 it < 2 ^ 16 in
     let Q : List ℕ → Type 0 = HaveSmallModes kind in
-    (subst P digits.0 low, subst Q same.1 more)
+    (subst P same.0 low, subst Q same.1 more)
 
 -- the bytes are the encodings of entries without a message
 pub record IsCleanRun (kind : Kind) (strict : Bool) (bytes : List ℕ) (entries : List RawEntryView) : Type 0 where
@@ -91,13 +88,15 @@ entry_then_rest : (digits name id rest : List ℕ) → digits ++ 32 ∷ (name ++
 entry_then_rest digits name id rest = sym (append_assoc digits (32 ∷ (name ++ 0 ∷ id)) rest
     ∙ ap (λ (it : List ℕ). digits ++ 32 ∷ it) (append_assoc name (0 ∷ id) rest))
 
-clean_run : (kind : Kind) (strict : Bool) (bytes : List ℕ) (entries : List RawEntryView) → YieldsRawEntries kind bytes entries complete
+clean_run : (kind : Kind) (strict : Bool) (offset : ℕ) (bytes : List ℕ) (entries : List RawEntryView)
+    → Yields (RawEntryStep kind) offset bytes entries complete
     → HaveSmallModes kind bytes → AllByRecursion (λ (e : RawEntryView). (it : Message) → ¬ HasEntryMessage e it) entries
     → AllByRecursion (λ (e : RawEntryView). ¬ HasBadMode strict e) entries → IsCleanRun kind strict bytes entries
-clean_run kind strict _ _ (yields_end _) small messages modes = record { clean = tt; encodings = []; joined = refl; are = tt }
-clean_run kind strict _ _ (yields_piece _ _ input rest e entries _ has yields) small messages modes =
+clean_run kind strict _ _ _ (yields_end _) small messages modes = record { clean = tt; encodings = []; joined = refl; are = tt }
+clean_run kind strict _ _ _ (yields_piece _ next input rest e entries _ step yields) small messages modes =
+    let has : BeginsWithRawEntry kind input e rest = step.0 in
     let first = small_first kind input rest e has small in
-    let after = clean_run kind strict rest entries yields first.1 messages.1 modes.1 in
+    let after = clean_run kind strict next rest entries yields first.1 messages.1 modes.1 in
     let clean : IsCleanEntry kind strict e =
     record { messages = messages.0; mode = modes.0; filled = has.filled; len = has.id } in
     let own : has.digits ≡ encode_mode e.mode = own_digits kind strict input rest e has first.0 clean in
@@ -144,7 +143,7 @@ safe_of_yields kind strict bytes entries yields small none =
     (λ (it : Message) (has : HasEntry (λ e. HasEntryMessage e it) entries). none it (inl has)) in
     let modes = none_has_bad_mode strict entries
     (λ (has : HasEntry (HasBadMode strict) entries). none message.BadFilemode (inr (inr (inl (refl, has))))) in
-    safe_of_run kind strict bytes entries (clean_run kind strict bytes entries yields small messages modes) none
+    safe_of_run kind strict bytes entries (clean_run kind strict 0 bytes entries yields small messages modes) none
 
 safe_of_reads : (kind : Kind) (strict : Bool) (bytes : List ℕ) (entries : List RawEntryView) (ending : Ending) → ReadsTree kind bytes entries ending
     → HaveSmallModes kind bytes → ((it : Message) → ¬ ReportsOfTree strict entries ending it) → IsSafeTree kind strict bytes
@@ -152,7 +151,7 @@ safe_of_reads kind strict bytes entries broken reads small none = absurd (none m
 safe_of_reads kind strict bytes entries complete (inl reads) small none = safe_of_yields kind strict bytes entries reads.1 small none
 safe_of_reads kind strict [] entries complete (inr unread) small none =
     let P : List RawEntryView → Type 0 = λ it. YieldsRawEntries kind [] it complete in
-    safe_of_yields kind strict [] entries (subst P (sym unread.1) (yields_end tt)) small none
+    safe_of_yields kind strict [] entries (subst P (sym unread.1) (yields_end 0)) small none
 safe_of_reads kind strict (byte ∷ bytes) entries complete (inr unread) small none = let other : complete ≡ broken = unread.2 in cc other
 
 -- a tree without a message is safe if its modes are small

@@ -1,3 +1,4 @@
+mod FirstOffsets
 mod NamesAscend
 mod NamesSeen
 mod OctalNumbers

@@ -7,30 +7,20 @@ use Rattle.std.specs.List.{list_any}
 use Rattle.std.specs.declared.cmp.Ordering.{Ordering}
 use Rattle.std.specs.Cmp.Lexicographic.{bytes_decides, slice_cmp, texts_ties}
 use Rattle.std.specs.Ordering.{is_eq, nat_cmp}
-use Rattle.gixobj_fsck_trees.specs.RawViews.{raw_entry_views}
-use Rattle.gixobj_fsck_trees.specs.TreeMessages.{HasEntry, HasNameTwice}
+use Rattle.gixobj_fsck_trees.specs.FirstOffsets.{IsNoName, IsRepeatOffset}
+use Rattle.gixobj_fsck_trees.specs.RawEntries.{RawEntryView}
+use Rattle.gixobj_fsck_trees.specs.RawViews.{raw_entry_view, raw_entry_views}
+use Rattle.gixobj_fsck_trees.proofs.FirstOffsets.{IsNameOrSeen}
+use Rattle.gixobj_fsck_trees.proofs.TreeLoops.{borrowed, entry_at, no_entry}
 use Rattle.gixobj_fsck_trees.specs.declared.raw_entry.RawEntry.{RawEntry}
 
 -- the order of borrowed names
 abbrev pub bytes_order : Bor (List ℕ) → Bor (List ℕ) → Ordering
 bytes_order x y = slice_cmp nat_cmp x.now y.now
 
--- the set has the name of an entry
-pub data HasSeen (seen : Bor (List ℕ) → Bool) : List RawEntry → Type 0 where
-  here : (entry : RawEntry) (entries : List RawEntry) → seen entry.name ≡ true → HasSeen seen (entry ∷ entries)
-  later : (entry : RawEntry) (entries : List RawEntry) → HasSeen seen entries → HasSeen seen (entry ∷ entries)
-
--- two entries have one name, or the set has the name of one
-abbrev pub IsTwiceOrSeen : (Bor (List ℕ) → Bool) → List RawEntry → Type 0
-IsTwiceOrSeen seen entries = HasNameTwice (raw_entry_views entries) ⊎ HasSeen seen entries
-
 -- the set after has the names of the set before, and this one
 abbrev pub Sees : (Bor (List ℕ) → Bool) → Bor (List ℕ) → (Bor (List ℕ) → Bool) → Type 0
 Sees before name after = (other : Bor (List ℕ)) → after other ≡ cond (is_eq (slice_cmp nat_cmp name.now other.now)) true (before other)
-
--- an entry has this name
-abbrev pub HasNamed : Bor (List ℕ) → List RawEntry → Type 0
-HasNamed name entries = HasEntry (λ other. other.name ≡ name.now) (raw_entry_views entries)
 
 not_true : (value : Bool) → true ≡ not value → value ≡ false
 not_true true is = cc
@@ -69,89 +59,90 @@ seen_of_before : (before after : Bor (List ℕ) → Bool) (name other : Bor (Lis
 seen_of_before before after name other sees old =
     sees other ∙ cond_of_value (is_eq (slice_cmp nat_cmp name.now other.now)) (before other) old
 
-named_or_seen : (before after : Bor (List ℕ) → Bool) (name : Bor (List ℕ)) (entries : List RawEntry) → Sees before name after
-    → HasSeen after entries → HasNamed name entries ⊎ HasSeen before entries
-named_or_seen before after name [] sees seen = elim seen [ ]
-named_or_seen before after name (_ ∷ _) sees (here entry entries is) =
-    elim (seen_cases before after name entry.name sees is) [ inl same ↦ inl (inl same) | inr old ↦ inr (here entry entries old) ]
-named_or_seen before after name (_ ∷ _) sees (later entry entries seen) =
-    elim (named_or_seen before after name entries sees seen) [ inl named ↦ inl (inr named) | inr old ↦ inr (later entry entries old) ]
-
-seen_of_named : (before after : Bor (List ℕ) → Bool) (name : Bor (List ℕ)) (entries : List RawEntry) → Sees before name after
-    → HasNamed name entries → HasSeen after entries
-seen_of_named before after name [] sees named = absurd named
-seen_of_named before after name (entry ∷ entries) sees (inl same) = here entry entries (seen_of_same before after name entry.name sees same)
-seen_of_named before after name (entry ∷ entries) sees (inr named) = later entry entries (seen_of_named before after name entries sees named)
-
-still_seen : (before after : Bor (List ℕ) → Bool) (name : Bor (List ℕ)) (entries : List RawEntry) → Sees before name after
-    → HasSeen before entries → HasSeen after entries
-still_seen before after name [] sees old = elim old [ ]
-still_seen before after name (_ ∷ _) sees (here entry entries old) = here entry entries (seen_of_before before after name entry.name sees old)
-still_seen before after name (_ ∷ _) sees (later entry entries old) = later entry entries (still_seen before after name entries sees old)
-
-twice_or_seen_first : (before after : Bor (List ℕ) → Bool) (entry : RawEntry) (entries : List RawEntry) → Sees before entry.name after
-    → before entry.name ≡ false → IsTwiceOrSeen before (entry ∷ entries) → IsTwiceOrSeen after entries
-twice_or_seen_first before after entry entries sees new (inl (inl named)) = inr (seen_of_named before after entry.name entries sees named)
-twice_or_seen_first before after entry entries sees new (inl (inr twice)) = inl twice
-twice_or_seen_first before after entry entries sees new (inr (here _ _ is)) = cc (new, is)
-twice_or_seen_first before after entry entries sees new (inr (later _ _ old)) = inr (still_seen before after entry.name entries sees old)
-
-twice_or_seen_rest : (before after : Bor (List ℕ) → Bool) (entry : RawEntry) (entries : List RawEntry) → Sees before entry.name after
-    → IsTwiceOrSeen after entries → IsTwiceOrSeen before (entry ∷ entries)
-twice_or_seen_rest before after entry entries sees (inl twice) = inl (inr twice)
-twice_or_seen_rest before after entry entries sees (inr seen) =
-    elim (named_or_seen before after entry.name entries sees seen) [ inl named ↦ inl (inl named) | inr old ↦ inr (later entry entries old) ]
-
--- a new name goes into the set, and the rest is left
-pub twice_or_seen_step : (before after : Bor (List ℕ) → Bool) (entry : RawEntry) (entries : List RawEntry) → Sees before entry.name after
-    → before entry.name ≡ false → IsTwiceOrSeen before (entry ∷ entries) ↔ IsTwiceOrSeen after entries
-twice_or_seen_step before after entry entries sees new =
-    (twice_or_seen_first before after entry entries sees new, twice_or_seen_rest before after entry entries sees)
-
-none_seen : (seen : Bor (List ℕ) → Bool) (entries : List RawEntry) → ((name : Bor (List ℕ)) → seen name ≡ false) → ¬ HasSeen seen entries
-none_seen seen [] none old = elim old [ ]
-none_seen seen (_ ∷ _) none (here entry entries is) = let new = none entry.name in cc (new, is)
-none_seen seen (_ ∷ _) none (later entry entries old) = none_seen seen entries none old
-
-twice_of_none_seen : (seen : Bor (List ℕ) → Bool) (entries : List RawEntry) → ((name : Bor (List ℕ)) → seen name ≡ false)
-    → IsTwiceOrSeen seen entries → HasNameTwice (raw_entry_views entries)
-twice_of_none_seen seen entries none (inl twice) = twice
-twice_of_none_seen seen entries none (inr old) = absurd (none_seen seen entries none old)
-
--- an empty set has seen no name
-pub twice_or_seen_start : (seen : Bor (List ℕ) → Bool) (entries : List RawEntry) → ((name : Bor (List ℕ)) → seen name ≡ false)
-    → IsTwiceOrSeen seen entries ↔ HasNameTwice (raw_entry_views entries)
-twice_or_seen_start seen entries none = (twice_of_none_seen seen entries none, λ (twice : HasNameTwice (raw_entry_views entries)). inl twice)
-
--- no entries have one name
-pub not_twice_or_seen_end : (seen : Bor (List ℕ) → Bool) → ¬ IsTwiceOrSeen seen []
-not_twice_or_seen_end seen (inl twice) = twice
-not_twice_or_seen_end seen (inr old) = elim old [ ]
+still_seen : (before after : Bor (List ℕ) → Bool) (name other : Bor (List ℕ)) → Sees before name after
+    → (other.now ≡ name.now) ⊎ (before other ≡ true) → after other ≡ true
+still_seen before after name other sees (inl same) = seen_of_same before after name other sees same
+still_seen before after name other sees (inr old) = seen_of_before before after name other sees old
 
 -- a set without keys has seen no name
 pub not_seen_of_empty : (names : BTreeSet (Bor (List ℕ))) → names.keys ≡ [] → (name : Bor (List ℕ)) → contains bytes_order names name ≡ false
 not_seen_of_empty names empty name = let P : List (Bor (List ℕ)) → Type 0 = λ keys. list_any (is_at (bytes_order name)) keys ≡ false in
     subst P (sym empty) refl
 
+-- ---- the first repeat
+
+-- the name is in the set
+abbrev pub IsSeen : (Bor (List ℕ) → Bool) → List ℕ → Type 0
+IsSeen seen name = seen (borrowed name) ≡ true
+
+not_seen : (seen : Bor (List ℕ) → Bool) (name : List ℕ) → ((it : Bor (List ℕ)) → seen it ≡ false) → IsSeen seen name → ⊥
+not_seen seen name none old = let new = none (borrowed name) in cc (new, old)
+
+name_or_seen_of : (S T : List ℕ → Type 0) (e : RawEntryView) (name : List ℕ) → (S name → T name) → IsNameOrSeen S e name → IsNameOrSeen T e name
+name_or_seen_of S T e name implies (inl same) = inl same
+name_or_seen_of S T e name implies (inr seen) = inr (implies seen)
+
+repeat_of_same_names : (S T : List ℕ → Type 0) → ((name : List ℕ) → S name ↔ T name) → (entries : List RawEntryView) (offset : ℕ)
+    → IsRepeatOffset S entries offset → IsRepeatOffset T entries offset
+repeat_of_same_names S T same [] offset repeat = repeat
+repeat_of_same_names S T same (e ∷ entries) offset (inl here) = inl ((same e.name).0 here.0, here.1)
+repeat_of_same_names S T same (e ∷ entries) offset (inr later) =
+    inr (
+      λ (seen : T e.name). later.0 ((same e.name).1 seen),
+      repeat_of_same_names (IsNameOrSeen S e) (IsNameOrSeen T e)
+          (λ name. (name_or_seen_of S T e name (same name).0, name_or_seen_of T S e name (same name).1)) entries offset later.1,
+    )
+
+seen_after : (before after : Bor (List ℕ) → Bool) (entry : RawEntry) → Sees before entry.name after → (name : List ℕ)
+    → IsNameOrSeen (IsSeen before) (raw_entry_view entry) name ↔ IsSeen after name
+seen_after before after entry sees name = (
+  λ either. still_seen before after entry.name (borrowed name) sees either,
+  λ seen. seen_cases before after entry.name (borrowed name) sees seen,
+)
+
+repeat_rest : (before after : Bor (List ℕ) → Bool) (entry : RawEntry) (entries : List RawEntryView) (offset : ℕ) → Sees before entry.name after
+    → before (borrowed entry.name.now) ≡ false → IsRepeatOffset (IsSeen before) (raw_entry_view entry ∷ entries) offset
+    → IsRepeatOffset (IsSeen after) entries offset
+repeat_rest before after entry entries offset sees new (inl here) =
+    let old : before (borrowed entry.name.now) ≡ true = here.0 in cc (new, old)
+repeat_rest before after entry entries offset sees new (inr later) =
+    repeat_of_same_names (IsNameOrSeen (IsSeen before) (raw_entry_view entry)) (IsSeen after) (seen_after before after entry sees) entries offset later.1
+
+repeat_cons : (before after : Bor (List ℕ) → Bool) (entry : RawEntry) (entries : List RawEntryView) (offset : ℕ) → Sees before entry.name after
+    → before (borrowed entry.name.now) ≡ false → IsRepeatOffset (IsSeen after) entries offset
+    → IsRepeatOffset (IsSeen before) (raw_entry_view entry ∷ entries) offset
+repeat_cons before after entry entries offset sees new repeat =
+    inr (
+      λ (old : before (borrowed entry.name.now) ≡ true). cc (new, old),
+      repeat_of_same_names (IsSeen after) (IsNameOrSeen (IsSeen before) (raw_entry_view entry))
+          (λ name. let same = seen_after before after entry sees name in (same.1, same.0)) entries offset repeat,
+    )
+
+-- an empty set: the first repeat is that of the entries alone
+pub repeat_start : (seen : Bor (List ℕ) → Bool) (entries : List RawEntryView) (offset : ℕ) → ((name : Bor (List ℕ)) → seen name ≡ false)
+    → IsRepeatOffset (IsSeen seen) entries offset ↔ IsRepeatOffset IsNoName entries offset
+repeat_start seen entries offset none = (
+  repeat_of_same_names (IsSeen seen) IsNoName (λ name. (not_seen seen name none, λ no. absurd no)) entries offset,
+  repeat_of_same_names IsNoName (IsSeen seen) (λ name. (λ no. absurd no, not_seen seen name none)) entries offset,
+)
+
 -- ---- at an index
 
--- an entry past the end
-abbrev pub no_entry : RawEntry
-no_entry = record { mode = 0; first_digit = 0; name = record { ref_ptr = (0, 0); now = [] }; id = record { ref_ptr = (0, 0); now = [] } }
+-- a new name goes into the set
+pub repeat_step_at : (before after : Bor (List ℕ) → Bool) (entries : List RawEntry) (at : ℕ) → at < length entries
+    → Sees before (entry_at entries at).name after → true ≡ not (before (borrowed (entry_at entries at).name.now)) → (offset : ℕ)
+    → IsRepeatOffset (IsSeen before) (raw_entry_views (drop at entries)) offset
+    ↔ IsRepeatOffset (IsSeen after) (raw_entry_views (drop (at + 1) entries)) offset
+repeat_step_at before after entries at within sees added offset =
+    let new = not_true (before (borrowed (entry_at entries at).name.now)) added in
+    rw (drop_more entries at no_entry within) (
+      repeat_rest before after (entry_at entries at) (raw_entry_views (drop (at + 1) entries)) offset sees new,
+      repeat_cons before after (entry_at entries at) (raw_entry_views (drop (at + 1) entries)) offset sees new,
+    )
 
--- the entry at an index
-abbrev pub entry_at : List RawEntry → ℕ → RawEntry
-entry_at entries at = get_or entries at no_entry
-
-pub twice_or_seen_step_at : (before after : Bor (List ℕ) → Bool) (entries : List RawEntry) (at : ℕ) → at < length entries
-    → Sees before (entry_at entries at).name after → true ≡ not (before (entry_at entries at).name)
-    → IsTwiceOrSeen before (drop at entries) ↔ IsTwiceOrSeen after (drop (at + 1) entries)
-twice_or_seen_step_at before after entries at within sees added =
-    rw (drop_more entries at no_entry within)
-    (twice_or_seen_step before after (entry_at entries at) (drop (at + 1) entries) sees (not_true (before (entry_at entries at).name) added))
-
-pub twice_or_seen_at : (before : Bor (List ℕ) → Bool) (entries : List RawEntry) (at : ℕ) → at < length entries
-    → false ≡ not (before (entry_at entries at).name) → IsTwiceOrSeen before (drop at entries)
-twice_or_seen_at before entries at within added =
-    rw (drop_more entries at no_entry within)
-    (inr (here (entry_at entries at) (drop (at + 1) entries) (not_false (before (entry_at entries at).name) added)))
+-- a name that is in the set is that of the first repeat
+pub repeat_at : (before : Bor (List ℕ) → Bool) (entries : List RawEntry) (at : ℕ) → at < length entries
+    → false ≡ not (before (borrowed (entry_at entries at).name.now))
+    → IsRepeatOffset (IsSeen before) (raw_entry_views (drop at entries)) (entry_at entries at).offset
+repeat_at before entries at within added =
+    rw (drop_more entries at no_entry within) (inl (not_false (before (borrowed (entry_at entries at).name.now)) added, refl))

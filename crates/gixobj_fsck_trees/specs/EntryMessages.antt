@@ -31,10 +31,12 @@ HasNameMessage e it = ((it ≡ message.FullPathname) × Contains e.name slash)
     ⊎ ((it ≡ message.HasDotdot) × (e.name ≡ codes ".."))
     ⊎ ((it ≡ message.HasDotgit) × IsDotGit e.name)
 
--- the message is about this entry: its name, as that of a link or of any entry, an id of zeros, or a mode that begins
--- with 0
-abbrev pub HasEntryMessage : RawEntryView → Message → Type 0
-HasEntryMessage e it = (IsLink e × HasLinkMessage e it)
-    ⊎ HasNameMessage e it
+-- the message is about this entry, but not as a link: about its name, an id of zeros, or a mode that begins with 0
+abbrev pub HasFault : RawEntryView → Message → Type 0
+HasFault e it = HasNameMessage e it
     ⊎ ((it ≡ message.NullSha1) × All (λ byte. byte ≡ 0) e.id)
     ⊎ ((it ≡ message.ZeroPaddedFilemode) × (e.first_digit ≡ 48))
+
+-- the message is about this entry, as a link or not
+abbrev pub HasEntryMessage : RawEntryView → Message → Type 0
+HasEntryMessage e it = (IsLink e × HasLinkMessage e it) ⊎ HasFault e it

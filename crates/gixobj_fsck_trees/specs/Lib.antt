@@ -1,4 +1,5 @@
 pub mod EntryMessages
+pub mod FirstOffsets
 pub mod RawEntries
 pub mod RawViews
 pub mod TreeMessages

@@ -3,7 +3,7 @@ ghost use Rattle.std.specs.Prelude.{◌≡◌, ◌⊎◌, ◌↔◌, ◌==◌, A
 ghost use Rattle.gixobj_fsck_messages.specs.Sets.{HasMessage};
 ghost use Rattle.gixobj_fsck_messages.specs.declared.message.Message.{Message as MessageType};
 ghost use Rattle.gixobj_hash.specs.Bytes.{slash};
-ghost use Rattle.gixobj_fsck_trees.specs.EntryMessages.{HasBadMode, HasEntryMessage, HasLinkMessage, HasNameMessage, IsLink};
+ghost use Rattle.gixobj_fsck_trees.specs.EntryMessages.{HasBadMode, HasEntryMessage, HasFault, HasLinkMessage, HasNameMessage, IsLink};
 ghost use Rattle.gixobj_fsck_trees.specs.RawViews.{raw_entry_view};
 ghost use Rattle.gixobj_fsck_trees.specs.TreeMessages.{is_directory as is_directory_of};
 
@@ -69,8 +69,23 @@ fn with_name(messages: Messages, entry: &RawEntry) -> Messages
     with(dotdot, Message::HasDotgit, is_dot_git(entry.name))
 }
 
-/// Returns whether the entry is a symbolic link.
-fn is_link(entry: &RawEntry) -> bool
+/// Returns whether the message is about this entry, but not as a link. Allocates nothing.
+pub fn has_fault(message: Message, entry: &RawEntry) -> bool
+    ensures { IsTrue result ↔ HasFault (raw_entry_view entry.now) message }
+{
+    match message {
+        Message::NullSha1 => is_null(entry.id),
+        Message::FullPathname => has_slash(entry.name),
+        Message::HasDot => is_name(entry.name, b"."),
+        Message::HasDotdot => is_name(entry.name, b".."),
+        Message::HasDotgit => is_dot_git(entry.name),
+        Message::ZeroPaddedFilemode => entry.first_digit == b'0',
+        _ => false,
+    }
+}
+
+/// Returns whether the entry is a symbolic link. Allocates nothing.
+pub fn is_link(entry: &RawEntry) -> bool
     ensures { IsTrue result ↔ IsLink (raw_entry_view entry.now) }
 {
     entry.mode & 0o170000 == 0o120000
@@ -83,8 +98,8 @@ pub(crate) fn is_directory(entry: &RawEntry) -> bool
     entry.mode & 0o170000 == 0o040000
 }
 
-/// Returns whether git doesn't write the mode of the entry.
-pub(crate) fn has_bad_mode(strict: bool, entry: &RawEntry) -> bool
+/// Returns whether git doesn't write the mode of the entry. Allocates nothing.
+pub fn has_bad_mode(strict: bool, entry: &RawEntry) -> bool
     ensures { IsTrue result ↔ HasBadMode strict (raw_entry_view entry.now) }
 {
     match entry.mode {

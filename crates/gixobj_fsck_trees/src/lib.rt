@@ -1,13 +1,13 @@
 //! The messages of `git fsck` about trees (`git-fsck`, "FSCK MESSAGES").
 #![tactic(auto)]
 
-mod entry_messages;
-mod fsck;
+pub mod entries;
+pub mod entry_messages;
 pub mod laws;
+mod message_set;
 mod name_twice;
-mod raw_entry;
-mod read_tree;
+pub mod raw_entry;
+pub mod read_tree;
 mod sets;
-mod tree_messages;
 
-pub use fsck::fsck_tree;
+pub use message_set::tree_messages;

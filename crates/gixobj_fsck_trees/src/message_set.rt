@@ -1,4 +1,4 @@
-//! The messages about a tree.
+//! The set of messages about a tree.
 ghost use Rattle.std.specs.Prelude.{◌≡◌, ◌⊎◌, ◌↔◌, IfOk, IsTrue, OnErr};
 ghost use Rattle.gixobj_fsck_messages.specs.Sets.{HasMessage};
 ghost use Rattle.gixobj_fsck_messages.specs.declared.message.Message.{Message as MessageType};
@@ -6,23 +6,23 @@ ghost use Rattle.gixobj_fsck_trees.specs.RawEntries.{BeginsWithSomeRawEntry, end
 ghost use Rattle.gixobj_fsck_trees.specs.RawViews.{raw_entry_views};
 ghost use Rattle.gixobj_fsck_trees.specs.TreeMessages.{AreTreeMessages, HasNameTwice, ReportsOfTree, compared};
 
+use crate::entries::{compared_entries, has_step_down, have_bad_mode, with_entries};
 use crate::name_twice::has_name_twice;
 use crate::raw_entry::RawEntry;
 use crate::read_tree::read_tree;
 use crate::sets::with;
-use crate::tree_messages::{compared_entries, has_step_down, have_bad_mode, with_entries};
 use gixobj_fsck_messages::{Message, Messages};
 use gixobj_hash::hash::Kind;
 use std::alloc::{AllocError, Global};
 
-/// Returns the messages of `git fsck` about the bytes of a tree whose entries have ids of this kind.
+/// Returns the set of messages of `git fsck` about the bytes of a tree whose entries have ids of this kind.
 ///
 /// A strict check reports mode 100664 too. The entries and the set of their names allocate.
 ///
 /// # Errors
 ///
 /// [`AllocError`] if an allocation failed, only for bytes that begin with an entry.
-pub fn fsck_tree(
+pub fn tree_messages(
     alloc: Global,
     bytes: &[u8],
     hash_kind: Kind,

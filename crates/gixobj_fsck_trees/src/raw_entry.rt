@@ -1,5 +1,5 @@
 //! The entries of a tree as `git fsck` reads them.
-ghost use Rattle.std.specs.Prelude.{◌≡◌, ◌≢◌, ◌↔◌, ◌<◌, ◌^◌, ◌%◌, IfNone, IfSome, IsTrue, List, length};
+ghost use Rattle.std.specs.Prelude.{◌≡◌, ◌≢◌, ◌↔◌, ◌<◌, ◌≤◌, ◌+◌, ◌^◌, ◌%◌, IfNone, IfSome, IsTrue, List, length};
 ghost use Rattle.std.specs.Str.Parse.{AllDigits, IsNumeral, digits_value};
 ghost use Rattle.gixobj_fsck_trees.specs.RawViews.{raw_entry_view};
 ghost use Rattle.gixobj_fsck_trees.specs.RawEntries.{BeginsWithNoRawEntry, BeginsWithRawEntry};
@@ -7,20 +7,37 @@ ghost use Rattle.gixobj_fsck_trees.specs.RawEntries.{BeginsWithNoRawEntry, Begin
 use gixobj_hash::hash::Kind;
 use gixobj_hash::split::split_at_byte;
 
-/// An entry: the number of its mode in 16 bits, the first digit of the mode, its name, and the bytes of its id.
+/// An entry of a tree.
 #[derive(Clone, Copy)]
-pub(crate) struct RawEntry<'a> {
-    pub(crate) mode: u16,
-    pub(crate) first_digit: u8,
-    pub(crate) name: &'a [u8],
-    pub(crate) id: &'a [u8],
+pub struct RawEntry<'a> {
+    /// The number of the mode in 16 bits.
+    pub mode: u16,
+    /// The first digit of the mode.
+    pub first_digit: u8,
+    /// The name.
+    pub name: &'a [u8],
+    /// The bytes of the id.
+    pub id: &'a [u8],
+    /// The offset of the entry in its tree.
+    pub offset: usize,
+    /// The offset after the entry.
+    pub end: usize,
 }
 
-/// Decodes the entry at the beginning of the input, and returns it and the rest, or `None` if there is none.
-pub(crate) fn decode_raw_entry(input: &[u8], hash_kind: Kind) -> Option<(RawEntry<'_>, &[u8])>
+/// Decodes the entry at the beginning of the input, the last bytes of a tree of this length.
+///
+/// Returns the entry and the rest, or `None` if there is no entry.
+pub(crate) fn decode_raw_entry(
+    input: &[u8],
+    len: usize,
+    hash_kind: Kind,
+) -> Option<(RawEntry<'_>, &[u8])>
+    requires { length input.now ≤ len }
     ensures found { IfSome result (λ it.
         BeginsWithRawEntry hash_kind input.now (raw_entry_view it.0) it.1.now) }
     ensures none { IfNone result (BeginsWithNoRawEntry hash_kind input.now) }
+    ensures offset { IfSome result (λ it. it.0.offset + length input.now ≡ len) }
+    ensures end { IfSome result (λ it. it.0.end + length it.1.now ≡ len) }
     ensures shorter { IfSome result (λ it. length it.1.now < length input.now) }
 {
     let Some((digits, from_name)) = split_at_byte(input, b' ') else {
@@ -32,14 +49,14 @@ pub(crate) fn decode_raw_entry(input: &[u8], hash_kind: Kind) -> Option<(RawEntr
     let Some((name, from_id)) = split_at_byte(from_name, 0) else {
         return None;
     };
-    let len = hash_kind.len_in_bytes();
+    let id_len = hash_kind.len_in_bytes();
     if name.is_empty() {
         return None;
     }
-    if from_id.len() < len {
+    if from_id.len() < id_len {
         return None;
     }
-    let (id, rest) = from_id.split_at(len);
+    let (id, rest) = from_id.split_at(id_len);
     let mode = octal_number(digits);
     let first_digit = digits[0];
     Some((
@@ -48,6 +65,8 @@ pub(crate) fn decode_raw_entry(input: &[u8], hash_kind: Kind) -> Option<(RawEntr
             first_digit,
             name,
             id,
+            offset: len - input.len(),
+            end: len - rest.len(),
         },
         rest,
     ))

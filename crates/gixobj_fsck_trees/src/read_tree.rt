@@ -1,27 +1,36 @@
 //! The entries that git reads of a tree.
-ghost use Rattle.std.specs.Prelude.{◌↔◌, IfOk, IsTrue, OnErr};
-ghost use Rattle.gixobj_fsck_trees.specs.RawEntries.{BeginsWithSomeRawEntry, EndsWithId, ReadsTree, ending_of};
+ghost use Rattle.std.specs.Prelude.{◌≡◌, ◌↔◌, IfOk, IsTrue, OnErr};
+ghost use Rattle.gixobj_fsck_trees.specs.RawEntries.{BeginsWithSomeRawEntry, EndsWithId, ReadsTree, end_of, ending_of};
 ghost use Rattle.gixobj_fsck_trees.specs.RawViews.{raw_entry_views};
 
 use crate::raw_entry::{RawEntry, decode_raw_entry};
 use gixobj_hash::hash::Kind;
 use std::alloc::{AllocError, Global};
 
-/// The entries that git reads of a tree, and whether a rest begins with no entry.
+/// What git reads of a tree.
 #[derive(Drop)]
-pub(crate) struct ReadTree<'a> {
-    pub(crate) entries: Vec<RawEntry<'a>>,
-    pub(crate) is_broken: bool,
+pub struct ReadTree<'a> {
+    /// The entries.
+    pub entries: Vec<RawEntry<'a>>,
+    /// Whether bytes remain that begin with no entry.
+    pub is_broken: bool,
+    /// The offset after the last entry, or 0 if there is none.
+    pub end: usize,
 }
 
 /// Reads a tree whose entries have ids of this kind. Only the list of entries allocates.
-pub(crate) fn read_tree<'a>(
+///
+/// # Errors
+///
+/// [`AllocError`] if an allocation failed, only for bytes that begin with an entry.
+pub fn read_tree<'a>(
     alloc: Global,
     bytes: &'a [u8],
     hash_kind: Kind,
 ) -> Result<ReadTree<'a>, AllocError>
     ensures found { IfOk result (λ it. ReadsTree hash_kind bytes.now
         (raw_entry_views it.entries.items) (ending_of it.is_broken)) }
+    ensures end { IfOk result (λ it. it.end ≡ end_of (raw_entry_views it.entries.items)) }
     ensures error { OnErr result (BeginsWithSomeRawEntry hash_kind bytes.now) }
 {
     let mut entries = Vec::new(alloc);
@@ -29,14 +38,16 @@ pub(crate) fn read_tree<'a>(
         return Ok(ReadTree {
             entries,
             is_broken: !bytes.is_empty(),
+            end: 0,
         });
     }
     let mut rest = bytes;
     while !rest.is_empty() {
-        let Some((entry, following)) = decode_raw_entry(rest, hash_kind) else {
+        let Some((entry, following)) = decode_raw_entry(rest, bytes.len(), hash_kind) else {
             return Ok(ReadTree {
                 entries,
                 is_broken: true,
+                end: bytes.len() - rest.len(),
             });
         };
         entries.push(entry)?;
@@ -45,6 +56,7 @@ pub(crate) fn read_tree<'a>(
     Ok(ReadTree {
         entries,
         is_broken: false,
+        end: bytes.len(),
     })
 }
 

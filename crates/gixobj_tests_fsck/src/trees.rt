@@ -1,6 +1,6 @@
 //! The messages about trees.
 
-use gixobj_fsck_trees::fsck_tree;
+use gixobj_fsck_trees::tree_messages;
 use gixobj_tests_recorded::answer::Answer;
 use gixobj_tests_recorded::fields::{kind_and_bytes, split_at_first};
 
@@ -9,7 +9,7 @@ use gixobj_tests_recorded::fields::{kind_and_bytes, split_at_first};
 pub(crate) fn tree_answer(question: &[u8], answer: &mut Answer) {
     let (check, rest) = split_at_first(question, b' ');
     let (hash_kind, bytes) = kind_and_bytes(rest, answer);
-    let Ok(messages) = fsck_tree(
+    let Ok(messages) = tree_messages(
         answer.alloc,
         bytes.as_slice(),
         hash_kind,

@@ -1,6 +1,6 @@
 use Rattle.std.proofs.Common.{◌≡◌, ◌-◌, length, rules}
 use Rattle.gixobj_fsck_trees.proofs.TreeLoops.{views_without_last}
-use Rattle.gixobj_fsck_trees.proofs.tree_messages.compared_entries.Goals as goal
+use Rattle.gixobj_fsck_trees.proofs.entries.compared_entries.Goals as goal
 
 pub returns-then-is_broken-clause-value : goal.returns-then-is_broken-clause-value
 returns-then-is_broken-clause-value c =

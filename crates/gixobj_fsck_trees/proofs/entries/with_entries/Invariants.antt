@@ -4,7 +4,7 @@ use Rattle.gixobj_fsck_messages.specs.declared.message.Message.{Message}
 use Rattle.gixobj_fsck_trees.specs.EntryMessages.{HasEntryMessage}
 use Rattle.gixobj_fsck_trees.specs.RawViews.{raw_entry_views}
 use Rattle.gixobj_fsck_trees.specs.TreeMessages.{HasEntry}
-use Rattle.gixobj_fsck_trees.proofs.tree_messages.with_entries.Given as goal
+use Rattle.gixobj_fsck_trees.proofs.entries.with_entries.Given as goal
 
 -- the messages so far, and those about the rest, are all
 abbrev pub invariant-loop-entry : goal.invariant-loop-entry

@@ -2,7 +2,7 @@ use Rattle.std.proofs.Common.{◌<◌, ◌≤◌, arith, length}
 use Rattle.std.proofs.lemmas.Grind.{common_steps}
 use Rattle.gixobj_fsck_trees.proofs.TreeReads.{begins_of_reads, on_err}
 use Rattle.gixobj_fsck_trees.specs.RawEntries.{ending_of}
-use Rattle.gixobj_fsck_trees.proofs.fsck.fsck_tree.Goals as goal
+use Rattle.gixobj_fsck_trees.proofs.message_set.tree_messages.Goals as goal
 
 pub returns-in_err-twice-clause-error : goal.returns-in_err-twice-clause-error
 returns-in_err-twice-clause-error c =

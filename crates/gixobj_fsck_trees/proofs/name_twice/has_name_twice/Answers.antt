@@ -1,35 +1,10 @@
-use Rattle.std.proofs.Common.{◌≡◌, ◌<◌, ◌∙◌, ℕ, Bool, List, Bor, rules, length, refl, sym, IsTrue, true, false}
-use Rattle.std.specs.BTreeSet.{contains}
-use Rattle.gixobj_fsck_trees.proofs.NamesAscend.{not_twice_of_ascend}
+use Rattle.gixobj_fsck_trees.specs.FirstOffsets.{IsNoName, IsRepeatOffset}
 use Rattle.gixobj_fsck_trees.specs.RawViews.{raw_entry_views}
-use Rattle.gixobj_fsck_trees.specs.TreeMessages.{Ascend, HasNameTwice}
-use Rattle.gixobj_fsck_trees.proofs.NamesSeen.{bytes_order, not_seen_of_empty, twice_or_seen_at, twice_or_seen_start, twice_or_seen_step_at}
+use Rattle.gixobj_fsck_trees.proofs.FirstOffsets.{found_iff, name_twice_of_repeat, no_name_twice}
 use Rattle.gixobj_fsck_trees.proofs.name_twice.has_name_twice.Goals as goal
 
-pub loop-entry-init : goal.loop-entry-init
-loop-entry-init c = twice_or_seen_start _ c.args.entries.now (not_seen_of_empty c.new-names.result c.new-names.ensures.empty)
-
-pub returns-then-not-branch-clause-found : goal.returns-then-not-branch-clause-found
-returns-then-not-branch-clause-found c =
-    let before : Bor (List ℕ) → Bool = λ name. contains bytes_order c.loop-entry.names name in
-    let within : c.loop-entry.entry-index < length c.args.entries.now = search rules in
-    let found = twice_or_seen_at before c.args.entries.now c.loop-entry.entry-index within
-    (sym c.if-not-branch.true ∙ c.in_ok-insert.ensures.added) in
-    (λ answer. c.loop-entry.invariant.0 found, λ twice. refl)
-
-pub loop-entry-preserved : goal.loop-entry-preserved
-loop-entry-preserved c =
-    let before : Bor (List ℕ) → Bool = λ name. contains bytes_order c.loop-entry.names name in
-    let after : Bor (List ℕ) → Bool = λ name. contains bytes_order c.insert.new.self name in
-    let within : c.loop-entry.entry-index < length c.args.entries.now = search rules in
-    let step = twice_or_seen_step_at before after c.args.entries.now c.loop-entry.entry-index within c.in_ok-insert.ensures.updates.0
-    (sym c.if-not-branch.false ∙ c.in_ok-insert.ensures.added) in
-    (λ left. c.loop-entry.invariant.0 (step.1 left), λ twice. step.0 (c.loop-entry.invariant.1 twice))
-
-pub returns-then-names_ascend-clause-found : goal.returns-then-names_ascend-clause-found
-returns-then-names_ascend-clause-found c =
-    let entries = raw_entry_views c.args.entries.now in
-    let ascend : Ascend entries = c.names_ascend.ensures.0 c.if-names_ascend.true in (
-      λ (answer : IsTrue false). absurd (let it : false ≡ true = answer in cc),
-      λ (twice : HasNameTwice entries). absurd (not_twice_of_ascend entries ascend twice),
-    )
+pub returns-clause-found : goal.returns-clause-found
+returns-clause-found c =
+    rw c.is_some.ensures
+    (found_iff (IsRepeatOffset IsNoName (raw_entry_views c.args.entries.now)) _ c.in_ok-first.first c.in_ok-first.ensures.found
+    (name_twice_of_repeat (raw_entry_views c.args.entries.now)) (no_name_twice (raw_entry_views c.args.entries.now)))

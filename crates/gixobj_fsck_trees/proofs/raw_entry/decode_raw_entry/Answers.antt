@@ -23,7 +23,7 @@ returns-then-is_empty-clause-none c =
     no_entry_of_name c.args.hash_kind c.args.input.now c.in-Some.digits.now c.in-Some.from_name.now c.in-Some-split_at_byte.name.now
     c.in-Some-split_at_byte.from_id.now c.in-Some.ensures.found c.in-Some-split_at_byte.ensures.found (inl empty)
 
-pub returns-then-from_id-len-clause-none : goal.returns-then-from_id-len-clause-none
-returns-then-from_id-len-clause-none c =
+pub returns-then-from_id-id_len-clause-none : goal.returns-then-from_id-id_len-clause-none
+returns-then-from_id-id_len-clause-none c =
     no_entry_of_name c.args.hash_kind c.args.input.now c.in-Some.digits.now c.in-Some.from_name.now c.in-Some-split_at_byte.name.now
     c.in-Some-split_at_byte.from_id.now c.in-Some.ensures.found c.in-Some-split_at_byte.ensures.found (inr (search rules))
