@@ -15,7 +15,7 @@ use gixobj_parse::parse::{after_name, header_id};
 /// Returns git's messages about a commit, of which there is at most one.
 ///
 /// Ids are hex of the hash function `kind`. The messages are the same in a strict check. Allocates nothing.
-pub fn fsck_commit(kind: Kind, commit: &[u8]) -> Messages
+pub fn commit_messages(kind: Kind, commit: &[u8]) -> Messages
     ensures { (it : Message) → HasMessage result it ↔ IsCommitMessage kind commit.now it }
 {
     let mut messages = Messages::new();
@@ -36,7 +36,7 @@ pub fn fsck_commit(kind: Kind, commit: &[u8]) -> Messages
 pub fn is_commit_accepted(kind: Kind, commit: &[u8], strict: bool) -> bool
     ensures { IsTrue result ↔ IsAcceptedCommit strict kind commit.now }
 {
-    !fsck_commit(kind, commit).has_error(strict)
+    !commit_messages(kind, commit).has_error(strict)
 }
 
 /// Returns the input after the committer's line, or the first fault.

@@ -1,6 +1,6 @@
 //! Git's messages about a commit, and its verdict.
 //!
-//! [`fsck_commit`] returns the messages of `git fsck` as a set, and [`is_commit_accepted`] whether git accepts
+//! [`commit_messages`] returns the messages of `git fsck` as a set, and [`is_commit_accepted`] whether git accepts
 //! the commit. Both run without git's parser, which rejects some malformed commits before a check.
 #![tactic(auto)]
 
@@ -11,4 +11,4 @@ pub mod headers;
 pub mod lines;
 pub mod spans;
 
-pub use commits::{fsck_commit, is_commit_accepted};
+pub use commits::{commit_messages, is_commit_accepted};

@@ -1,9 +1,9 @@
 //! Git's messages about a tag, and its verdict.
 //!
-//! [`fsck_tag`] returns the messages of `git fsck` as a set, and [`is_tag_accepted`] whether git accepts the tag. Both
+//! [`tag_messages`] returns the messages of `git fsck` as a set, and [`is_tag_accepted`] whether git accepts the tag. Both
 //! run without git's parser, which rejects some malformed tags before a check.
 #![tactic(auto)]
 
 pub mod tags;
 
-pub use tags::{fsck_tag, has_extra_header, is_tag_accepted};
+pub use tags::{tag_messages, has_extra_header, is_tag_accepted};

@@ -1,9 +1,9 @@
 //! Answers with git's messages about commits and tags, and with its verdicts.
 
 use gixobj_base::hash::Kind;
-use gixobj_fsck::{fsck_commit, is_commit_accepted};
+use gixobj_fsck::{commit_messages, is_commit_accepted};
 use gixobj_fsck_messages::{Message, Messages, Severity};
-use gixobj_fsck_tags::{fsck_tag, is_tag_accepted};
+use gixobj_fsck_tags::{tag_messages, is_tag_accepted};
 use gixobj_tests_recorded::answer::Answer;
 use gixobj_tests_recorded::fields::{kind_of_ids, split_at_first, yes_or_no};
 
@@ -34,9 +34,9 @@ pub(crate) fn fsck_message_answer(question: &[u8], answer: &mut Answer) {
     let question = question_of(question, answer);
     let bytes = question.bytes.as_slice();
     let messages = if question.is_commit {
-        fsck_commit(question.kind, bytes)
+        commit_messages(question.kind, bytes)
     } else {
-        fsck_tag(question.kind, bytes)
+        tag_messages(question.kind, bytes)
     };
     if messages.is_empty() {
         answer.write("none");

@@ -3,7 +3,7 @@ use Rattle.gixobj_fsck_tags.specs.Tags.{IsTagMessage}
 use Rattle.gixobj_fsck.proofs.MessageSets.{one_message}
 use Rattle.gixobj_fsck_tags.proofs.TagMessages.{inserts_all}
 use Rattle.gixobj_fsck_tags.proofs.TagOutcomes.{only_fault}
-use Rattle.gixobj_fsck_tags.proofs.tags.fsck_tag.Goals as goal
+use Rattle.gixobj_fsck_tags.proofs.tags.tag_messages.Goals as goal
 
 pub returns-in-Err : goal.returns-in-Err
 returns-in-Err c = one_message c.new-messages.result c.insert.new.self c.in-Err.fault (IsTagMessage c.args.kind c.args.tag.now)

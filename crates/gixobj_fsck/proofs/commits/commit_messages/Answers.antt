@@ -4,7 +4,7 @@ use Rattle.gixobj_fsck.specs.Commits.{IsCommitMessage}
 use Rattle.gixobj_fsck_messages.specs.declared.message.Message.TheVariants as message
 use Rattle.gixobj_fsck.proofs.CommitMessages.{only_fault, only_zero}
 use Rattle.gixobj_fsck.proofs.MessageSets.{no_messages, one_message}
-use Rattle.gixobj_fsck.proofs.commits.fsck_commit.Goals as goal
+use Rattle.gixobj_fsck.proofs.commits.commit_messages.Goals as goal
 
 pub returns-in-Err : goal.returns-in-Err
 returns-in-Err c = one_message c.new-messages.result c.insert.new.self c.in-Err.fault (IsCommitMessage c.args.kind c.args.commit.now)
