@@ -6,13 +6,11 @@ use Rattle.std.proofs.lemmas.List.Elements.{All-from_recursion}
 use Rattle.gixobj_fsck_messages.specs.Sets.{HasMessage, HasNoMessage}
 use Rattle.gixobj_fsck_messages.specs.declared.message.Message.{Message}
 use Rattle.gixobj_fsck_messages.specs.declared.message.Message.TheVariants as message
-use Rattle.gixobj_hash.proofs.Splits.{split_parts_unique}
 use Rattle.gixobj_hash.specs.ByteStrings.{IsByteFree}
 use Rattle.gixobj_hash.specs.Hash.{id_bytes, id_from}
 use Rattle.gixobj_hash.specs.Runs.{Ending, Yields, broken, complete, yields_end, yields_piece}
 use Rattle.gixobj_hash.specs.declared.hash.kind.Kind.{Kind}
 use Rattle.gixobj_tree_entries.proofs.ByteSix.{encode_mode_has_six_digits}
-use Rattle.gixobj_tree_entries.proofs.EncodedModes.{octal_digits_space_free}
 use Rattle.gixobj_tree_entries.specs.Entries.{EntryView}
 use Rattle.gixobj_tree_entries.specs.Mode.{encode_mode}
 use Rattle.gixobj_tree.specs.Rewriting.{DecodesToCanonicalEntry, HasCanonicalModes}

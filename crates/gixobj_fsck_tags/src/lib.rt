@@ -6,4 +6,4 @@
 
 pub mod tags;
 
-pub use tags::{tag_messages, has_extra_header, is_tag_accepted};
+pub use tags::{has_extra_header, is_tag_accepted, tag_messages};

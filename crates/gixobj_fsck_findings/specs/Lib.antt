@@ -1,0 +1,4 @@
+pub mod Checks
+pub mod CommitChecks
+pub mod LineChecks
+pub mod TagChecks
