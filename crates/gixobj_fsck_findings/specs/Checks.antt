@@ -1,9 +1,9 @@
 -- The checks of the parts of an object, one after the other, by the severity of each message (git-fsck, "FSCK
 -- MESSAGES"; git-config, `fsck.<msg-id>`). A check goes from the input of a part and the findings before it to the
 -- findings after it, and to the rest of the input; without a rest the check of the object ends.
-use Rattle.std.specs.Prelude.{◌≡◌, ◌-◌, ◌⊎◌, ◌∷◌, ◌++◌, [], ℕ, List, Option, Some, None, Result, Ok, Err, if◌then◌else◌, length}
+use Rattle.std.specs.Prelude.{◌≡◌, ◌-◌, ◌⊎◌, ◌∷◌, ◌++◌, [], ℕ, Bool, List, Option, Some, None, Result, Ok, Err, if◌then◌else◌, length, map}
 use Rattle.std.specs.Borrow.{Bor}
-use Rattle.gixobj_fsck_messages.specs.Severities.{counts_as_error, is_reported}
+use Rattle.gixobj_fsck_messages.specs.Severities.{counts_as_error, is_reported, severity_of}
 use Rattle.gixobj_fsck_messages.specs.declared.finding.Finding.{Finding}
 use Rattle.gixobj_fsck_messages.specs.declared.message.Message.{Message}
 use Rattle.gixobj_fsck_messages.specs.declared.severity.Severity.{Severity}
@@ -46,6 +46,14 @@ EndsAtFault severity object Part input before after outcome =
 abbrev pub IsDeterministicCheck : Check → Type 0
 IsDeterministicCheck Part = (input : List ℕ) (before one other : List Finding) (x y : Option (List ℕ))
     → Part input before one x → Part input before other y → (one ≡ other) × (x ≡ y)
+
+-- each message has the severity of git's documentation, in a strict check or not
+abbrev pub HaveDocumentedSeverities : Bool → (Message → Severity) → Type 0
+HaveDocumentedSeverities strict severity = (it : Message) → severity it ≡ severity_of strict it
+
+-- the messages of the findings
+abbrev pub messages_of : List Finding → List Message
+messages_of findings = map (λ (it : Finding). it.message) findings
 
 -- the rest that a call returned
 abbrev pub rest_of : Option (Bor (List ℕ)) → Option (List ℕ)

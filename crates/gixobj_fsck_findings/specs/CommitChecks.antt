@@ -1,17 +1,18 @@
 -- The findings of git-fsck about a commit, in their order (git-fsck, "FSCK MESSAGES"; git-config, `fsck.<msg-id>`). A
 -- message is at the offset of its line, or of where a missing line was expected; that of a zero byte at the byte; that
 -- of a header without an end at the end of the commit.
-use Rattle.std.specs.Prelude.{◌≡◌, ◌⊎◌, [], ℕ, List, Option, Some, None, codes}
+use Rattle.std.specs.Prelude.{◌≡◌, ◌⊎◌, ◌↔◌, [], ℕ, Bool, Contains, List, Option, Some, None, codes}
 use Rattle.gixobj_hash.specs.ByteStrings.{IsByteFree}
 use Rattle.gixobj_hash.specs.HeaderFormat.{BeginsWithOtherName}
 use Rattle.gixobj_hash.specs.declared.hash.kind.Kind.{Kind}
 use Rattle.gixobj_parse.specs.HeaderReading.{BeginsWithIdField, BeginsWithNoIdField}
+use Rattle.gixobj_fsck.specs.Commits.{IsCommitMessage}
 use Rattle.gixobj_fsck.specs.Lines.{BeginsWithName, IdLine}
 use Rattle.gixobj_fsck_messages.specs.declared.finding.Finding.{Finding}
 use Rattle.gixobj_fsck_messages.specs.declared.message.Message.{Message}
 use Rattle.gixobj_fsck_messages.specs.declared.message.Message.TheVariants as message
 use Rattle.gixobj_fsck_messages.specs.declared.severity.Severity.{Severity}
-use Rattle.gixobj_fsck_findings.specs.Checks.{AndThen, Check, EndsAtFault, listed, offset_of, rest_after}
+use Rattle.gixobj_fsck_findings.specs.Checks.{AndThen, Check, EndsAtFault, HaveDocumentedSeverities, listed, messages_of, offset_of, rest_after}
 use Rattle.gixobj_fsck_findings.specs.LineChecks.{ActorLineCheck, HeaderCheck, IsFirstByteAt}
 
 -- lines of parents, each with an id in hex, come before the rest
@@ -92,3 +93,9 @@ AreCommitFindings severity kind commit findings = CommitCheck severity kind comm
 abbrev pub HaveUniqueCommitFindings : (Message → Severity) → Kind → List ℕ → Type 0
 HaveUniqueCommitFindings severity kind commit = (one other : List Finding)
     → AreCommitFindings severity kind commit one → AreCommitFindings severity kind commit other → one ≡ other
+
+-- in a check without overrides the findings about the commit have the messages that git reports, as a set
+abbrev pub HaveCommitMessages : Bool → (Message → Severity) → Kind → List ℕ → Type 0
+HaveCommitMessages strict severity kind commit = HaveDocumentedSeverities strict severity
+    → (findings : List Finding) → AreCommitFindings severity kind commit findings
+    → (it : Message) → Contains (messages_of findings) it ↔ IsCommitMessage kind commit it
