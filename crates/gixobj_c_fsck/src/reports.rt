@@ -10,9 +10,9 @@ ghost use Rattle.gixobj_hash.specs.declared.kind.Kind.TheVariants as kind;
 
 use crate::messages::{severity_number, strictness};
 use gixobj_c_codes::codes::{DONE, OUT_OF_MEMORY, UNKNOWN_CODE, hash_of_code, kind_of_code};
-use gixobj_fsck::fsck_commit;
+use gixobj_fsck::commit_messages;
 use gixobj_fsck_messages::Messages;
-use gixobj_fsck_tags::{fsck_tag, has_extra_header};
+use gixobj_fsck_tags::{tag_messages, has_extra_header};
 use gixobj_fsck_trees::fsck_tree;
 use gixobj_hash::{Kind, hash};
 use std::alloc::{AllocError, Global};
@@ -97,7 +97,7 @@ fn report_tree(
 fn report_commit(hash: hash::Kind, bytes: &[u8], strict: bool) -> Report
     ensures { IsReport strict hash kind.Commit bytes.now result }
 {
-    let messages = fsck_commit(hash, bytes);
+    let messages = commit_messages(hash, bytes);
     report_messages(messages, strict, !messages.has_error(strict))
 }
 
@@ -105,7 +105,7 @@ fn report_commit(hash: hash::Kind, bytes: &[u8], strict: bool) -> Report
 fn report_tag(hash: hash::Kind, bytes: &[u8], strict: bool) -> Report
     ensures { IsReport strict hash kind.Tag bytes.now result }
 {
-    let messages = fsck_tag(hash, bytes);
+    let messages = tag_messages(hash, bytes);
     let is_accepted = accepts_tag(hash, bytes, strict, messages);
     report_messages(messages, strict, is_accepted)
 }

@@ -8,9 +8,9 @@ use Rattle.gixobj_hash.specs.declared.kind.Kind.TheVariants as kind
 
 pub returns : goal.returns
 returns c =
-    let messages = c.fsck_commit-messages.result in
+    let messages = c.commit_messages-messages.result in
     report_of_messages c.args.strict c.args.hash kind.Commit c.args.bytes.now messages (not c.has_error.result) c.report_messages.result
-    c.fsck_commit-messages.ensures
-    (no_error_iff c.has_error.result c.args.strict messages (IsCommitMessage c.args.hash c.args.bytes.now) c.fsck_commit-messages.ensures
+    c.commit_messages-messages.ensures
+    (no_error_iff c.has_error.result c.args.strict messages (IsCommitMessage c.args.hash c.args.bytes.now) c.commit_messages-messages.ensures
     c.has_error.ensures)
     c.report_messages.ensures

@@ -5,5 +5,5 @@ use Rattle.gixobj_hash.specs.declared.kind.Kind.TheVariants as kind
 
 pub returns : goal.returns
 returns c =
-    report_of_messages c.args.strict c.args.hash kind.Tag c.args.bytes.now c.fsck_tag-messages.result c.accepts_tag-is_accepted.result
-    c.report_messages.result c.fsck_tag-messages.ensures c.accepts_tag-is_accepted.ensures c.report_messages.ensures
+    report_of_messages c.args.strict c.args.hash kind.Tag c.args.bytes.now c.tag_messages-messages.result c.accepts_tag-is_accepted.result
+    c.report_messages.result c.tag_messages-messages.ensures c.accepts_tag-is_accepted.ensures c.report_messages.ensures
