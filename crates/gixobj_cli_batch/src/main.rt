@@ -20,12 +20,8 @@ mod history;
 mod input;
 mod lines;
 mod output;
-#[cfg(test)]
-mod recorded;
 mod report;
 mod store;
-#[cfg(test)]
-mod tests;
 
 use arguments::process_arguments;
 use engine::{engine, report};
