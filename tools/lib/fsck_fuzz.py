@@ -1,8 +1,7 @@
 """Changed objects, and git's messages about them beside those of `cinguepo.fsck`. `tools/fuzz --fsck` runs it.
 
 The objects of a repository are in one pack, over which `git fsck` runs. No id occurs as that of two kinds of object,
-at which git's parser stops. Objects that the parser rejects have no messages: they are counted, and their bytes are
-written anew as loose objects for `git mktag`, if they are tags.
+at which git's parser stops. Objects that the parser rejects have no messages, and are counted.
 """
 
 import hashlib
@@ -50,6 +49,10 @@ class Draw:
         """A new id, of which the first byte is the kind."""
         return bytes([kind]) + self.draw.randbytes(self.length - 1)
 
+    def entry_id(self, kind):
+        """A new id, or rarely the null id of a file."""
+        return bytes(self.length) if kind == 1 and self.is_one_in(60) else self.id(kind)
+
     def is_one_in(self, count):
         return self.draw.randrange(count) == 0
 
@@ -80,7 +83,7 @@ class Draw:
             entries.append((self.draw.choice([mode, b"40000", b"100644"]), name))
         if not self.is_one_in(4):
             entries.sort(key=lambda it: it[1] + (b"/" if it[0].endswith(b"40000") else b""))
-        content = b"".join(b"%s %s\0%s" % (mode, name, self.id(kind_of(mode))) for mode, name in entries)
+        content = b"".join(b"%s %s\0%s" % (mode, name, self.entry_id(kind_of(mode))) for mode, name in entries)
         if content and self.is_one_in(20):
             at = self.draw.randrange(len(content))
             content = self.draw.choice([content[:at], content[:at] + bytes([self.draw.randrange(256)]) + content[at + 1 :]])
@@ -95,6 +98,8 @@ class Draw:
     def commit(self):
         lines = [b"tree " + self.id(2).hex().encode()]
         lines += [b"parent " + self.id(3).hex().encode() for _ in range(self.draw.choice([0, 1, 1, 2]))]
+        if self.is_one_in(30):
+            return b"\n".join([*lines, b"parent " + self.draw.choice([b"zz\n", b"1\n", b"\n", b"g" * self.length + b"\n"])])
         lines += [b"author " + self.actor() for _ in range(self.draw.choice([1, 1, 1, 1, 0, 2, 3]))]
         lines += [b"committer " + self.actor()] if not self.is_one_in(12) else []
         lines += self.draw.choice([[], [], [b"encoding x"], [b"gpgsig a", b" b"]])
@@ -108,8 +113,10 @@ class Draw:
         return b"\n".join(lines) + self.draw.choice([b"\n\nhi\n", b"\n\nhi\n", b"\n", b"", b"\n\n", b"\n\na\0b"])
 
     def changed(self, content):
-        """The bytes with one change."""
-        at = self.draw.randrange(len(content) + 1)
+        """The bytes with one change, mostly after the first two lines, at which git's parser would reject them."""
+        lines = content.split(b"\n")
+        first = len(lines[0]) + len(lines[1]) + 2 if len(lines) > 2 and not self.is_one_in(6) else 0
+        at = self.draw.randrange(first, len(content) + 1)
         end = min(at + self.draw.choice([1, 1, 2, 8, 20]), len(content))
         number = self.draw.randrange(6)
         if number == 0:
@@ -130,9 +137,9 @@ def kind_of(mode):
 
 
 def has_kinds_apart(content, length):
-    """Whether no id of a tree's entries has another kind than its first byte, nor is it null."""
+    """Whether each id of a tree's entries is of the kind that its first byte states, or is that of a null file."""
     for mode, id in re.findall(rb"([0-7]+) [^\0]+\0(.{%d})" % length, content, re.DOTALL):
-        if id[0] != kind_of(mode) or not any(id):
+        if (id[0] or not any(id)) != kind_of(mode):
             return False
     return True
 
@@ -195,18 +202,21 @@ class Git:
 
 
 def differs(kind, wanted, found):
-    """Whether the messages differ, but for a name twice in a tree that isn't sorted, which git may miss."""
-    if kind == "tree" and any(it == "treeNotSorted" for _, it in wanted):
-        wanted, found = ([it for it in all if it[1] != "duplicateEntries"] for all in (wanted, found))
+    """Whether the messages differ. Git repeats those on links for each entry, and the library has a set. Of a tree
+    that isn't sorted git may miss a name that comes twice."""
+    if kind == "tree":
+        wanted, found = set(wanted), set(found)
+        if any(it == "treeNotSorted" for _, it in wanted) and not any(it == "duplicateEntries" for _, it in wanted):
+            found = {it for it in found if it[1] != "duplicateEntries"}
     return wanted != found
 
 
 class Run:
     """A comparison, and its counts."""
 
-    def __init__(self, fsck, folder, out):
-        self.fsck, self.folder, self.out = fsck, folder, out
-        self.counts, self.wrong = {}, 0
+    def __init__(self, fsck, out):
+        self.fsck, self.out = fsck, out
+        self.counts, self.compared, self.wrong = {}, 0, 0
 
     def count(self, what, number=1):
         self.counts[what] = self.counts.get(what, 0) + number
@@ -221,6 +231,7 @@ class Run:
                     self.count(f"{kind}s that git's parser rejects")
                     continue
                 wanted, found = reports.get(id, []), self.fsck(kind, content, digest, strict)
+                self.compared += 1
                 self.count(f"{kind}s with messages" if wanted else f"{kind}s without messages")
                 for _, message in wanted:
                     self.count(message)
