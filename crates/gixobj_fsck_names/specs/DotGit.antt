@@ -16,7 +16,7 @@ IsDotGitOnNtfs name = IsOnNtfs true name (codes ".git") ⊎ IsOnNtfs true name (
 abbrev pub HasAfterBackslash : (List ℕ → Type 0) → List ℕ → Type 0
 HasAfterBackslash P name = (before after : List ℕ) × (name ≡ before ++ (backslash ∷ after)) × P after
 
--- so many backslashes of the name have a rest with the property
+-- the number of backslashes of the name that have a rest with the property
 abbrev pub IsCountAfterBackslashes : (List ℕ → Type 0) → List ℕ → ℕ → Type 0
 IsCountAfterBackslashes P [] count = count ≡ 0
 IsCountAfterBackslashes P (byte ∷ rest) count =

@@ -20,7 +20,8 @@ has_entry_of P Q implies [] has = has
 has_entry_of P Q implies (e ∷ entries) (inl here) = inl (implies e here)
 has_entry_of P Q implies (e ∷ entries) (inr later) = inr (has_entry_of P Q implies entries later)
 
-has_entry_split : (P Q : RawEntryView → Type 0) (entries : List RawEntryView) → HasEntry (λ e. P e ⊎ Q e) entries
+-- an entry has one of two properties
+pub has_entry_split : (P Q : RawEntryView → Type 0) (entries : List RawEntryView) → HasEntry (λ e. P e ⊎ Q e) entries
     → HasEntry P entries ⊎ HasEntry Q entries
 has_entry_split P Q [] has = absurd has
 has_entry_split P Q (e ∷ entries) (inl (inl here)) = inl (inl here)

@@ -1,8 +1,8 @@
-mod FirstOffsets
+pub mod FirstOffsets
 mod NamesAscend
 mod NamesSeen
 mod OctalNumbers
 mod RawEntryParts
-mod TreeLoops
-mod TreeReads
+pub mod TreeLoops
+pub mod TreeReads
 pub mod UniqueReads

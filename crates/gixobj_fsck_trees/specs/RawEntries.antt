@@ -8,8 +8,8 @@ use Rattle.gixobj_hash.specs.Runs as runs
 use Rattle.gixobj_hash.specs.Runs.{Ending, broken, complete}
 use Rattle.gixobj_hash.specs.declared.hash.kind.Kind.{Kind}
 
--- an entry: the number of its mode in 16 bits, the first digit of the mode, its name, the bytes of its id, and the offsets
--- of its first byte and after its last one in the tree
+-- an entry: the number of its mode in 16 bits, the first digit of the mode, its name, the bytes of its id, and its
+-- offsets in the tree, of its first byte and after its last one
 pub record RawEntryView : Type 0 where
   pub mode : ℕ
   pub first_digit : ℕ

@@ -5,7 +5,7 @@ pub mod entries;
 pub mod entry_messages;
 pub mod laws;
 mod message_set;
-mod name_twice;
+pub mod name_twice;
 pub mod raw_entry;
 pub mod read_tree;
 mod sets;

@@ -3,6 +3,7 @@
 //! Prints for each table how many answers agree, and each row that differs.
 #![tactic(auto)]
 
+mod options;
 mod trees;
 
 use gixobj_tests_recorded::answer::Form::Escaped;
@@ -10,11 +11,12 @@ use gixobj_tests_recorded::tables::Replay;
 use gixobj_tests_recorded::tables::Rows::Named;
 use std::io::Write;
 use std::process::ExitCode;
-use trees::tree_answer;
+use trees::{offsets_answer, tree_answer};
 
 fn main(rt: HostRuntime) -> ExitCode {
     let mut replay = Replay::new(&rt);
     replay.table("fsck trees", Named(Escaped), tree_answer);
+    replay.table("fsck offsets", Named(Escaped), offsets_answer);
     match replay.end() {
         Ok(true) => ExitCode::SUCCESS,
         Ok(false) => ExitCode::FAILURE,

@@ -8,7 +8,7 @@ loop-byte-preserved-then-is_git_modules_after c =
     let split : c.loop-byte.rest.now ≡ c.in-Some.byte.now ∷ c.in-Some.after.now = search rules in
     let found = c.is_git_modules_after.ensures.0 c.if-is_git_modules_after.true in
     record {
-      few = grind (arith, split);
+      bounded = grind (arith, split);
       counted = adds_to_more IsGitModulesOnNtfs c.in-Some.byte.now c.in-Some.after.now c.args.name.now c.loop-byte.count found.0 found.1
           (subst (λ (rest : List ℕ). AddsTo IsGitModulesOnNtfs rest c.args.name.now c.loop-byte.count) split c.loop-byte.invariant.counted);
     }
@@ -17,7 +17,7 @@ pub loop-byte-preserved : goal.loop-byte-preserved
 loop-byte-preserved c =
     let split : c.loop-byte.rest.now ≡ c.in-Some.byte.now ∷ c.in-Some.after.now = search rules in
     record {
-      few = grind (arith, split);
+      bounded = grind (arith, split);
       counted = adds_to_same IsGitModulesOnNtfs c.in-Some.byte.now c.in-Some.after.now c.args.name.now c.loop-byte.count (search rules)
           (subst (λ (rest : List ℕ). AddsTo IsGitModulesOnNtfs rest c.args.name.now c.loop-byte.count) split c.loop-byte.invariant.counted);
     }

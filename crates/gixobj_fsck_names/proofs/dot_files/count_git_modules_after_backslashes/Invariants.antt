@@ -7,7 +7,7 @@ use Rattle.gixobj_fsck_names.proofs.dot_files.count_git_modules_after_backslashe
 abbrev pub invariant-loop-byte : goal.invariant-loop-byte
 invariant-loop-byte l =
     record {
-      few : l.count + length l.rest ≤ length l.name;
+      bounded : l.count + length l.rest ≤ length l.name;
       counted : AddsTo IsGitModulesOnNtfs l.rest l.name l.count;
     }
 

@@ -1,0 +1,5 @@
+mod Appends
+mod FaultOffsets
+mod FindingSets
+mod TreeSets
+mod UniqueFindings
