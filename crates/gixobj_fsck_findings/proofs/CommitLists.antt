@@ -19,7 +19,8 @@ use Rattle.gixobj_fsck_messages.specs.declared.severity.Severity.TheVariants as 
 use Rattle.gixobj_fsck_findings.specs.Checks.{AndThen, Check, EndsAtFault, HaveDocumentedSeverities, finding_of, listed, messages_of, offset_of, rest_after}
 use Rattle.gixobj_fsck_findings.specs.CommitChecks.{AreCommitFindings, AuthorCheck, AuthorLines, AuthorsCheck, CommitCheck, CommitterCheck, FollowsParents, HaveCommitMessages, MoreAuthorsCheck, ParentsCheck, PeopleCheck, ZeroCheck, last_author, next_author, next_parent, no_author, no_parent}
 use Rattle.gixobj_fsck_findings.specs.LineChecks.{ActorLineCheck, HeaderCheck, IsFirstByteAt}
-use Rattle.gixobj_fsck_findings.proofs.Serious.{Follows, IsSerious, actor_line_follows, and_then_follows, ends_follows, header_follows, serious_error, serious_list, serious_rest}
+use Rattle.gixobj_fsck_findings.proofs.Lists.{no_message_list, one_message_list}
+use Rattle.gixobj_fsck_findings.proofs.Serious.{Follows, FollowsTo, IsSerious, actor_line_follows, and_then_follows, ends_follows, header_follows, last_follows, more_follows, serious_error, serious_list, serious_rest}
 
 -- ---- ids and parents
 
@@ -138,48 +139,7 @@ committer_follows strict severity object documented input before after outcome (
 committer_follows strict severity object documented input before after outcome (inr a) =
     actor_line_follows strict severity object (codes "committer") message.MissingCommitter documented input before after outcome a
 
--- ---- the zero byte, after all lines
-
--- the check has the fault of the part as its only finding, or goes on to the zero byte
-abbrev pub FollowsToZero : (Message → Severity) → List ℕ → (List ℕ → Result (List ℕ) Message → Type 0) → Check → Type 0
-FollowsToZero severity object Part Checked = (input : List ℕ) (before after : List Finding) → Checked input before after None
-    → ((rest : List ℕ) × Part input (Ok rest) × ZeroCheck severity object rest before after None)
-    ⊎ ((fault : Message) × (offset : ℕ) × Part input (Err fault) × (after ≡ before ++ finding_of fault offset ∷ []))
-
-last_follows : (severity : Message → Severity) (object : List ℕ) (Part : List ℕ → Result (List ℕ) Message → Type 0) (Checked : Check)
-    → Follows Part Checked → FollowsToZero severity object Part (AndThen Checked (ZeroCheck severity object))
-last_follows severity object Part Checked follows input before after (inl a) = elim (follows input before after None a.0) [
-  | inl f ↦ let e = f.3 in absurd (cc e)
-  | inr f ↦ inr (f.0, f.1, f.2, f.3)
-]
-last_follows severity object Part Checked follows input before after (inr a) = elim (follows input before a.1 (Some a.0) a.2) [
-  | inl f ↦ inl (f.0, f.1, subst (λ (m : List Finding). ZeroCheck severity object f.0 m after None) f.2 a.3)
-  | inr f ↦ let e = f.4 in absurd (cc e)
-]
-
-more_follows : (severity : Message → Severity) (object : List ℕ) (P Q : List ℕ → Result (List ℕ) Message → Type 0) (First Second : Check)
-    → Follows P First → FollowsToZero severity object Q Second → FollowsToZero severity object (Then P Q) (AndThen First Second)
-more_follows severity object P Q First Second first second input before after (inl a) = elim (first input before after None a.0) [
-  | inl f ↦ let e = f.3 in absurd (cc e)
-  | inr f ↦ inr (f.0, f.1, inl f.2, f.3)
-]
-more_follows severity object P Q First Second first second input before after (inr a) = elim (first input before a.1 (Some a.0) a.2) [
-  | inl f ↦ let e = f.3 in let at : a.0 ≡ f.0 = cc e in
-      elim (second a.0 a.1 after a.3) [
-        | inl s ↦ inl (
-          s.0,
-          (f.0, f.1, subst (λ (i : List ℕ). Q i (Ok s.0)) at s.1),
-          subst (λ (m : List Finding). ZeroCheck severity object s.0 m after None) f.2 s.2,
-        )
-        | inr s ↦ inr (
-          s.0,
-          s.1,
-          inr (f.0, f.1, subst (λ (i : List ℕ). Q i (Err s.0)) at s.2),
-          s.3 ∙ ap (λ (m : List Finding). m ++ finding_of s.0 s.1 ∷ []) f.2,
-        )
-      ]
-  | inr f ↦ let e = f.4 in absurd (cc e)
-]
+-- ---- commits
 
 -- the author and no further author, and then the committer
 people_of_lines : (input : List ℕ) (outcome : Result (List ℕ) Message)
@@ -191,60 +151,38 @@ people_of_lines input (Err fault) (inl (inr (a, x, e))) = inr (a, x, inl e)
 people_of_lines input (Err fault) (inr (b, (a, x, y), e)) = inr (a, x, inr (b, y, e))
 
 people_follow : (strict : Bool) (severity : Message → Severity) (object : List ℕ) → HaveDocumentedSeverities strict severity
-    → FollowsToZero severity object
+    → FollowsTo (ZeroCheck severity object)
     (Then (ActorLine (codes "author") message.MissingAuthor) (Then NoMoreAuthors (ActorLine (codes "committer") message.MissingCommitter)))
     (PeopleCheck severity object)
 people_follow strict severity object documented input before after here =
-    elim (more_follows severity object (Then (ActorLine (codes "author") message.MissingAuthor) NoMoreAuthors)
+    elim (more_follows (ZeroCheck severity object) (Then (ActorLine (codes "author") message.MissingAuthor) NoMoreAuthors)
     (ActorLine (codes "committer") message.MissingCommitter) (AuthorsCheck severity object)
     (AndThen (CommitterCheck severity object) (ZeroCheck severity object)) (authors_follow strict severity object documented)
-    (last_follows severity object (ActorLine (codes "committer") message.MissingCommitter) (CommitterCheck severity object)
+    (last_follows (ZeroCheck severity object) (ActorLine (codes "committer") message.MissingCommitter) (CommitterCheck severity object)
     (committer_follows strict severity object documented)) input before after here) [
       | inl f ↦ inl (f.0, people_of_lines input (Ok f.0) f.1, f.2)
       | inr f ↦ inr (f.0, f.1, people_of_lines input (Err f.0) f.2, f.3)
     ]
 
 commit_follows : (strict : Bool) (severity : Message → Severity) (kind : Kind) (object : List ℕ) → HaveDocumentedSeverities strict severity
-    → FollowsToZero severity object (CommitPart kind) (CommitCheck severity kind object)
+    → FollowsTo (ZeroCheck severity object) (CommitPart kind) (CommitCheck severity kind object)
 commit_follows strict severity kind object documented =
-    more_follows severity object HeaderPart (Then (IdLine (codes "tree") kind message.MissingTree message.BadTreeSha1) (PeoplePart kind))
+    more_follows (ZeroCheck severity object) HeaderPart (Then (IdLine (codes "tree") kind message.MissingTree message.BadTreeSha1) (PeoplePart kind))
     (HeaderCheck severity)
     (AndThen (EndsAtFault severity object (IdLine (codes "tree") kind message.MissingTree message.BadTreeSha1))
     (AndThen (ParentsCheck severity kind object) (PeopleCheck severity object)))
     (header_follows strict severity documented)
-    (more_follows severity object (IdLine (codes "tree") kind message.MissingTree message.BadTreeSha1) (PeoplePart kind)
+    (more_follows (ZeroCheck severity object) (IdLine (codes "tree") kind message.MissingTree message.BadTreeSha1) (PeoplePart kind)
     (EndsAtFault severity object (IdLine (codes "tree") kind message.MissingTree message.BadTreeSha1))
     (AndThen (ParentsCheck severity kind object) (PeopleCheck severity object))
     (ends_follows severity object (IdLine (codes "tree") kind message.MissingTree message.BadTreeSha1)
     (tree_serious strict severity kind documented))
-    (more_follows severity object (ParentLines kind)
+    (more_follows (ZeroCheck severity object) (ParentLines kind)
     (Then (ActorLine (codes "author") message.MissingAuthor) (Then NoMoreAuthors (ActorLine (codes "committer") message.MissingCommitter)))
     (ParentsCheck severity kind object) (PeopleCheck severity object) (parents_follow strict severity kind object documented)
     (people_follow strict severity object documented)))
 
 -- ---- the set
-
--- the list of one message has it alone
-one_message_list : (findings : List Finding) (fault : Message) (offset : ℕ) (P : Message → Type 0) → findings ≡ finding_of fault offset ∷ []
-    → P fault → ((it : Message) → P it → it ≡ fault) → (it : Message) → Contains (messages_of findings) it ↔ P it
-one_message_list findings fault offset P same here only it =
-    let list = ap messages_of same in (
-      λ has. elim (Contains-push_cases [] fault it (subst (λ (l : List Message). Contains l it) list has)) [
-        | inl none ↦ absurd (omega (arith, none.1))
-        | inr is ↦ subst P is here
-      ],
-      λ is. subst (λ (l : List Message). Contains l it) (sym list)
-      (subst (λ (m : Message). Contains (fault ∷ []) m) (sym (only it is)) (Contains-push [] fault)),
-    )
-
--- the empty list has no message
-no_message_list : (findings : List Finding) (P : Message → Type 0) → findings ≡ [] → ((it : Message) → P it → ⊥)
-    → (it : Message) → Contains (messages_of findings) it ↔ P it
-no_message_list findings P same none it =
-    let list = ap messages_of same in (
-      λ has. let empty = subst (λ (l : List Message). Contains l it) list has in absurd (omega (arith, empty.1)),
-      λ is. absurd (none it is),
-    )
 
 zero_reported : (strict : Bool) (severity : Message → Severity) (offset : ℕ) → HaveDocumentedSeverities strict severity
     → listed severity message.NulInCommit offset [] ≡ finding_of message.NulInCommit offset ∷ []

@@ -37,6 +37,33 @@ pub serious_fatal : (strict : Bool) (severity : Message → Severity) (it : Mess
 serious_fatal strict severity it documented same = let e = documented it ∙ severity_of_fatal strict it same in
     record { reported = ap is_reported e; counts = ap counts_as_error e }
 
+severity_of_info : (strict : Bool) (it : Message) → documented_severity it ≡ severities.Info → severity_of strict it ≡ severities.Info
+severity_of_info true it same = ap (made_strict true) same
+severity_of_info false it same = ap (made_strict false) same
+
+-- a message for information is listed
+pub info_list : (strict : Bool) (severity : Message → Severity) (it : Message) (offset : ℕ) (before : List Finding)
+    → HaveDocumentedSeverities strict severity → documented_severity it ≡ severities.Info
+    → listed severity it offset before ≡ before ++ finding_of it offset ∷ []
+info_list strict severity it offset before documented same = let e = documented it ∙ severity_of_info strict it same in
+    ap (λ (s : Severity). if is_reported s then before ++ finding_of it offset ∷ [] else before) e
+
+-- the check goes on after a message for information
+pub info_rest : (strict : Bool) (severity : Message → Severity) (it : Message) (rest : List ℕ) → HaveDocumentedSeverities strict severity
+    → documented_severity it ≡ severities.Info → rest_after severity it rest ≡ Some rest
+info_rest strict severity it rest documented same = let e = documented it ∙ severity_of_info strict it same in
+    ap (λ (s : Severity). if counts_as_error s then None else Some rest) e
+
+-- an extra header isn't listed
+pub extra_list : (strict : Bool) (severity : Message → Severity) (offset : ℕ) (before : List Finding) → HaveDocumentedSeverities strict severity
+    → listed severity message.ExtraHeaderEntry offset before ≡ before
+extra_list true severity offset before documented =
+    ap (λ (s : Severity). if is_reported s then before ++ finding_of message.ExtraHeaderEntry offset ∷ [] else before)
+    (documented message.ExtraHeaderEntry)
+extra_list false severity offset before documented =
+    ap (λ (s : Severity). if is_reported s then before ++ finding_of message.ExtraHeaderEntry offset ∷ [] else before)
+    (documented message.ExtraHeaderEntry)
+
 -- a serious message is listed
 pub serious_list : (severity : Message → Severity) (it : Message) (offset : ℕ) (before : List Finding) → IsSerious severity it
     → listed severity it offset before ≡ before ++ finding_of it offset ∷ []
@@ -122,3 +149,47 @@ actor_line_follows strict severity object name missing documented input before a
       a.2 ∙ serious_list severity a.0 (offset_of object input) before serious,
       a.3 ∙ serious_rest severity a.0 rest serious,
     )
+
+-- ---- the last check
+
+-- the check has the fault of the part as its only finding, or goes on to the last check
+abbrev pub FollowsTo : Check → (List ℕ → Result (List ℕ) Message → Type 0) → Check → Type 0
+FollowsTo Last Part Checked = (input : List ℕ) (before after : List Finding) → Checked input before after None
+    → ((rest : List ℕ) × Part input (Ok rest) × Last rest before after None)
+    ⊎ ((fault : Message) × (offset : ℕ) × Part input (Err fault) × (after ≡ before ++ finding_of fault offset ∷ []))
+
+pub last_follows : (Last : Check) (Part : List ℕ → Result (List ℕ) Message → Type 0) (Checked : Check)
+    → Follows Part Checked → FollowsTo Last Part (AndThen Checked Last)
+last_follows Last Part Checked follows input before after (inl a) = elim (follows input before after None a.0) [
+  | inl f ↦ let e = f.3 in absurd (cc e)
+  | inr f ↦ inr (f.0, f.1, f.2, f.3)
+]
+last_follows Last Part Checked follows input before after (inr a) = elim (follows input before a.1 (Some a.0) a.2) [
+  | inl f ↦ let e = f.3 in let at : a.0 ≡ f.0 = cc e in
+      inl (f.0, f.1, subst (λ (m : List Finding). Last f.0 m after None) f.2 (subst (λ (i : List ℕ). Last i a.1 after None) at a.3))
+  | inr f ↦ let e = f.4 in absurd (cc e)
+]
+
+pub more_follows : (Last : Check) (P Q : List ℕ → Result (List ℕ) Message → Type 0) (First Second : Check)
+    → Follows P First → FollowsTo Last Q Second → FollowsTo Last (Then P Q) (AndThen First Second)
+more_follows Last P Q First Second first second input before after (inl a) = elim (first input before after None a.0) [
+  | inl f ↦ let e = f.3 in absurd (cc e)
+  | inr f ↦ inr (f.0, f.1, inl f.2, f.3)
+]
+more_follows Last P Q First Second first second input before after (inr a) = elim (first input before a.1 (Some a.0) a.2) [
+  | inl f ↦ let e = f.3 in let at : a.0 ≡ f.0 = cc e in
+      elim (second a.0 a.1 after a.3) [
+        | inl s ↦ inl (
+          s.0,
+          (f.0, f.1, subst (λ (i : List ℕ). Q i (Ok s.0)) at s.1),
+          subst (λ (m : List Finding). Last s.0 m after None) f.2 s.2,
+        )
+        | inr s ↦ inr (
+          s.0,
+          s.1,
+          inr (f.0, f.1, subst (λ (i : List ℕ). Q i (Err s.0)) at s.2),
+          s.3 ∙ ap (λ (m : List Finding). m ++ finding_of s.0 s.1 ∷ []) f.2,
+        )
+      ]
+  | inr f ↦ let e = f.4 in absurd (cc e)
+]

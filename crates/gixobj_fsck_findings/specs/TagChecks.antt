@@ -1,7 +1,7 @@
 -- The findings of git-fsck about a tag, in their order (git-fsck, "FSCK MESSAGES"; git-config, `fsck.<msg-id>`). A
 -- message is at the offset of its line, or of where a missing line was expected; that of a zero byte at the byte; that
 -- of a header without an end at the end of the tag.
-use Rattle.std.specs.Prelude.{◌≡◌, ◌⊎◌, ◌∷◌, ◌++◌, [], ℕ, List, Some, None, Ok, Err, codes}
+use Rattle.std.specs.Prelude.{◌≡◌, ◌⊎◌, ◌∷◌, ◌++◌, [], ◌↔◌, ℕ, Bool, Contains, List, Some, None, Ok, Err, codes}
 use Rattle.gixobj_hash.specs.Bytes.{newline, space}
 use Rattle.gixobj_hash.specs.HeaderFormat.{BeginsWithField, BeginsWithNoField, BeginsWithOtherName}
 use Rattle.gixobj_hash.specs.Kind.{IsUnknownKindName, kind_name}
@@ -14,8 +14,9 @@ use Rattle.gixobj_fsck_messages.specs.declared.finding.Finding.{Finding}
 use Rattle.gixobj_fsck_messages.specs.declared.message.Message.{Message}
 use Rattle.gixobj_fsck_messages.specs.declared.message.Message.TheVariants as message
 use Rattle.gixobj_fsck_messages.specs.declared.severity.Severity.{Severity}
+use Rattle.gixobj_fsck_tags.specs.Tags.{IsTagMessage}
 use Rattle.gixobj_tag.specs.NameRule.{HasNoFault}
-use Rattle.gixobj_fsck_findings.specs.Checks.{AndThen, Check, EndsAtFault, listed, offset_of, rest_after}
+use Rattle.gixobj_fsck_findings.specs.Checks.{AndThen, Check, EndsAtFault, HaveDocumentedSeverities, listed, messages_of, offset_of, rest_after}
 use Rattle.gixobj_fsck_findings.specs.LineChecks.{HeaderCheck}
 
 -- the fault of a line that isn't the field of this name: another line, or one without a newline
@@ -88,3 +89,9 @@ AreTagFindings severity kind tag findings = TagCheck severity kind tag tag [] fi
 abbrev pub HaveUniqueTagFindings : (Message → Severity) → Kind → List ℕ → Type 0
 HaveUniqueTagFindings severity kind tag = (one other : List Finding)
     → AreTagFindings severity kind tag one → AreTagFindings severity kind tag other → one ≡ other
+
+-- in a check without overrides the findings about the tag have the messages that git reports, as a set
+abbrev pub HaveTagMessages : Bool → (Message → Severity) → Kind → List ℕ → Type 0
+HaveTagMessages strict severity kind tag = HaveDocumentedSeverities strict severity
+    → (findings : List Finding) → AreTagFindings severity kind tag findings
+    → (it : Message) → Contains (messages_of findings) it ↔ IsTagMessage kind tag it

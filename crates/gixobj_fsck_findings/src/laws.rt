@@ -1,6 +1,6 @@
 //! Laws of the findings about commits and tags.
 ghost use Rattle.gixobj_fsck_findings.specs.CommitChecks.{HaveCommitMessages, HaveUniqueCommitFindings};
-ghost use Rattle.gixobj_fsck_findings.specs.TagChecks.{HaveUniqueTagFindings};
+ghost use Rattle.gixobj_fsck_findings.specs.TagChecks.{HaveTagMessages, HaveUniqueTagFindings};
 ghost use Rattle.gixobj_fsck_messages.specs.Options.{severity_by};
 
 use gixobj_fsck_messages::Options;
@@ -25,4 +25,10 @@ pub fn commit_findings_have_its_messages(
 /// The findings about a tag are unique.
 pub fn tag_findings_are_unique(kind: Kind, tag: &[u8], options: &Options)
     ensures { HaveUniqueTagFindings (severity_by options.now) kind tag.now }
+{}
+
+/// In a check without overrides the findings about a tag have the messages of
+/// [`tag_messages`](gixobj_fsck_tags::tag_messages), as a set.
+pub fn tag_findings_have_its_messages(kind: Kind, tag: &[u8], options: &Options, strict: bool)
+    ensures { HaveTagMessages strict (severity_by options.now) kind tag.now }
 {}
