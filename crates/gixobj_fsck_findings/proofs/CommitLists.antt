@@ -1,8 +1,7 @@
 -- Without overrides the findings about a commit have the messages that git reports.
-use Rattle.std.proofs.Common.{◌≡◌, ◌≢◌, ◌⊎◌, ◌∷◌, ◌++◌, [], ℕ, Bool, List, Ok, Err, Some, None, inl, inr, refl, sym, ap, subst, ◌∙◌, true, false, arith}
-use Rattle.std.specs.Prelude.{◌↔◌, Contains, Option, Result, codes, if◌then◌else◌}
-use Rattle.std.proofs.lemmas.List.Elements.{All-contains, Contains-append_left, Contains-append_right, Contains-push, Contains-push_cases}
-use Rattle.gixobj_hash.specs.ByteStrings.{IsByteFree}
+use Rattle.std.proofs.Common.{◌≡◌, ◌≢◌, ◌⊎◌, ◌∷◌, ◌++◌, [], ℕ, Bool, List, Ok, Err, Some, None, inl, inr, refl, sym, ap, subst, ◌∙◌, true, false}
+use Rattle.std.specs.Prelude.{Contains, Option, Result, codes, if◌then◌else◌}
+use Rattle.std.proofs.lemmas.List.Elements.{All-contains, Contains-append_left, Contains-append_right, Contains-push}
 use Rattle.gixobj_hash.specs.declared.hash.kind.Kind.{Kind}
 use Rattle.gixobj_fsck.specs.Commits.{CommitPart, IsCommitMessage, MoreAuthors, NoMoreAuthors, ParentLines, PeoplePart, bad_author, bad_parent}
 use Rattle.gixobj_fsck.specs.Commits.{last_author as several, next_author as one_more, next_parent as one_parent, no_parent as no_line}
@@ -15,10 +14,9 @@ use Rattle.gixobj_fsck_messages.specs.declared.finding.Finding.{Finding}
 use Rattle.gixobj_fsck_messages.specs.declared.message.Message.{Message}
 use Rattle.gixobj_fsck_messages.specs.declared.message.Message.TheVariants as message
 use Rattle.gixobj_fsck_messages.specs.declared.severity.Severity.{Severity}
-use Rattle.gixobj_fsck_messages.specs.declared.severity.Severity.TheVariants as severities
-use Rattle.gixobj_fsck_findings.specs.Checks.{AndThen, Check, EndsAtFault, HaveDocumentedSeverities, finding_of, listed, messages_of, offset_of, rest_after}
-use Rattle.gixobj_fsck_findings.specs.CommitChecks.{AreCommitFindings, AuthorCheck, AuthorLines, AuthorsCheck, CommitCheck, CommitterCheck, FollowsParents, HaveCommitMessages, MoreAuthorsCheck, ParentsCheck, PeopleCheck, ZeroCheck, last_author, next_author, next_parent, no_author, no_parent}
-use Rattle.gixobj_fsck_findings.specs.LineChecks.{ActorLineCheck, HeaderCheck, IsFirstByteAt}
+use Rattle.gixobj_fsck_findings.specs.Checks.{AndThen, EndsAtFault, HaveDocumentedSeverities, finding_of, listed, offset_of}
+use Rattle.gixobj_fsck_findings.specs.CommitChecks.{AuthorCheck, AuthorLines, AuthorsCheck, CommitCheck, CommitterCheck, FollowsParents, HaveCommitMessages, MoreAuthorsCheck, ParentsCheck, PeopleCheck, ZeroCheck, last_author, next_author, next_parent, no_author, no_parent}
+use Rattle.gixobj_fsck_findings.specs.LineChecks.{HeaderCheck, IsFirstByteAt}
 use Rattle.gixobj_fsck_findings.proofs.Lists.{no_message_list, one_message_list}
 use Rattle.gixobj_fsck_findings.proofs.Serious.{Follows, FollowsTo, IsSerious, actor_line_follows, and_then_follows, ends_follows, header_follows, last_follows, more_follows, serious_error, serious_list, serious_rest}
 
@@ -72,7 +70,7 @@ author_lines_follow strict severity object documented input before after outcome
             | inl s ↦ inl (
               s.0,
               one_more input f.1.0 f.1.1 f.0 message.MultipleAuthors f.1.2 f.1.3 f.1.4
-              (subst (λ (i : List ℕ). MoreAuthors i message.MultipleAuthors) at s.1),
+                  (subst (λ (i : List ℕ). MoreAuthors i message.MultipleAuthors) at s.1),
               s.2 ∙ f.2,
               s.3,
             )
@@ -103,7 +101,7 @@ more_authors_follow strict severity object documented input before after outcome
         offset_of object input,
         (a.2, f.1),
         a.4 ∙ serious_list severity message.MultipleAuthors (offset_of object input) a.1 serious
-        ∙ ap (λ (m : List Finding). m ++ finding_of message.MultipleAuthors (offset_of object input) ∷ []) f.2,
+            ∙ ap (λ (m : List Finding). m ++ finding_of message.MultipleAuthors (offset_of object input) ∷ []) f.2,
         a.5 ∙ serious_rest severity message.MultipleAuthors a.0 serious,
       )
       | inr f ↦ let e = f.4 in absurd (cc e)

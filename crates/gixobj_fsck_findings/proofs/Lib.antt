@@ -1,5 +1,6 @@
 pub mod CommitLists
 pub mod Lists
+pub mod Parsed
 pub mod Rests
 pub mod Serious
 pub mod Steps

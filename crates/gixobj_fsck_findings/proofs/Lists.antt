@@ -1,6 +1,6 @@
 -- The messages of lists of findings.
-use Rattle.std.proofs.Common.{◌≡◌, ◌⊎◌, ◌∷◌, ◌++◌, [], ℕ, List, inl, inr, refl, sym, ap, subst, ◌∙◌, arith}
-use Rattle.std.specs.Prelude.{◌↔◌, Contains, map}
+use Rattle.std.proofs.Common.{◌≡◌, ◌⊎◌, ◌∷◌, ◌++◌, [], ℕ, List, inl, inr, sym, ap, subst, ◌∙◌, arith}
+use Rattle.std.specs.Prelude.{◌↔◌, Contains}
 use Rattle.std.proofs.lemmas.List.{map-append}
 use Rattle.std.proofs.lemmas.List.Elements.{Contains-append_cases, Contains-append_left, Contains-append_right, Contains-push, Contains-push_cases}
 use Rattle.gixobj_fsck_messages.specs.declared.finding.Finding.{Finding}
@@ -17,7 +17,7 @@ one_message_list findings fault offset P same here only it =
         | inr is ↦ subst P is here
       ],
       λ is. subst (λ (l : List Message). Contains l it) (sym list)
-      (subst (λ (m : Message). Contains (fault ∷ []) m) (sym (only it is)) (Contains-push [] fault)),
+          (subst (λ (m : Message). Contains (fault ∷ []) m) (sym (only it is)) (Contains-push [] fault)),
     )
 
 -- the empty list has no message

@@ -1,5 +1,5 @@
 -- Without overrides the faults of lines count as errors, and so each check agrees with the part of its first fault.
-use Rattle.std.proofs.Common.{◌≡◌, ◌⊎◌, ◌∷◌, ◌++◌, [], ℕ, Bool, true, false, List, Ok, Err, Some, None, inl, inr, refl, sym, ap, subst, ◌∙◌}
+use Rattle.std.proofs.Common.{◌≡◌, ◌⊎◌, ◌∷◌, ◌++◌, [], ℕ, Bool, true, false, List, Ok, Err, Some, None, inl, inr, ap, subst, ◌∙◌}
 use Rattle.std.specs.Prelude.{Option, Result, if◌then◌else◌}
 use Rattle.gixobj_fsck.specs.Actors.{ActorPart}
 use Rattle.gixobj_fsck.specs.Headers.{HeaderPart}
@@ -12,7 +12,7 @@ use Rattle.gixobj_fsck_messages.specs.declared.message.Message.TheVariants as me
 use Rattle.gixobj_fsck_messages.specs.declared.severity.Severity.{Severity}
 use Rattle.gixobj_fsck_messages.specs.declared.severity.Severity.TheVariants as severities
 use Rattle.gixobj_fsck_findings.specs.Checks.{AndThen, Check, EndsAtFault, HaveDocumentedSeverities, finding_of, listed, offset_of, rest_after}
-use Rattle.gixobj_fsck_findings.specs.LineChecks.{ActorCheck, ActorLineCheck, HeaderCheck, IsHeaderOffset}
+use Rattle.gixobj_fsck_findings.specs.LineChecks.{ActorLineCheck, HeaderCheck, IsHeaderOffset}
 
 -- the message is listed and counts as an error
 pub record IsSerious (severity : Message → Severity) (it : Message) : Type 0 where

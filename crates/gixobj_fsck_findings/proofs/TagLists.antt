@@ -1,6 +1,6 @@
 -- Without overrides the findings about a tag have the messages that git reports.
-use Rattle.std.proofs.Common.{◌≡◌, ◌⊎◌, ◌∷◌, ◌++◌, [], ℕ, Bool, List, Ok, Err, Some, None, inl, inr, refl, sym, ap, subst, ◌∙◌}
-use Rattle.std.specs.Prelude.{◌↔◌, Contains, Option, Result, codes}
+use Rattle.std.proofs.Common.{◌≡◌, ◌∷◌, ◌++◌, [], ℕ, Bool, List, Ok, Err, Some, None, inl, inr, refl, sym, ap, subst, ◌∙◌}
+use Rattle.std.specs.Prelude.{◌↔◌, Contains, Option, codes}
 use Rattle.std.proofs.lemmas.List.{append-nil}
 use Rattle.gixobj_hash.specs.HeaderFormat.{BeginsWithField}
 use Rattle.gixobj_hash.specs.declared.hash.kind.Kind.{Kind}
@@ -13,11 +13,11 @@ use Rattle.gixobj_fsck_messages.specs.declared.finding.Finding.{Finding}
 use Rattle.gixobj_fsck_messages.specs.declared.message.Message.{Message}
 use Rattle.gixobj_fsck_messages.specs.declared.message.Message.TheVariants as message
 use Rattle.gixobj_fsck_messages.specs.declared.severity.Severity.{Severity}
-use Rattle.gixobj_fsck_tags.specs.Tags.{IsBadName, IsTagMessage, NameLine, NamePart, TaggerLine, TargetPart, TypeLine}
+use Rattle.gixobj_fsck_tags.specs.Tags.{IsBadName, IsTagMessage, NameLine, TaggerLine, TargetPart, TypeLine}
 use Rattle.gixobj_fsck_tags.proofs.TagOutcomes.{messages_after_name, only_fault}
-use Rattle.gixobj_fsck_findings.specs.Checks.{AndThen, Check, EndsAtFault, HaveDocumentedSeverities, finding_of, listed, messages_of, offset_of, rest_after}
+use Rattle.gixobj_fsck_findings.specs.Checks.{AndThen, EndsAtFault, HaveDocumentedSeverities, finding_of, messages_of, offset_of}
 use Rattle.gixobj_fsck_findings.specs.LineChecks.{HeaderCheck}
-use Rattle.gixobj_fsck_findings.specs.TagChecks.{AreTagFindings, ExtraCheck, HaveTagMessages, IsFieldFault, NameCheck, NamesCheck, TagCheck, TaggerCheck, TypeCheck}
+use Rattle.gixobj_fsck_findings.specs.TagChecks.{ExtraCheck, HaveTagMessages, IsFieldFault, NameCheck, NamesCheck, TagCheck, TaggerCheck, TypeCheck}
 use Rattle.gixobj_fsck_findings.proofs.Lists.{no_message_list, one_message_list, split_message_list}
 use Rattle.gixobj_fsck_findings.proofs.Serious.{Follows, FollowsTo, IsSerious, ends_follows, error_actor, extra_list, header_follows, info_list, info_rest, last_follows, more_follows, serious_error, serious_list, serious_rest}
 
@@ -117,7 +117,7 @@ name_list strict severity object documented input after found (inr (inr a)) =
       a.0,
       subst (λ (i : List ℕ). BeginsWithField (codes "tag") input a.0 i) rests a.2,
       one_message_list after message.BadTagName (offset_of object input) (IsBadName a.0)
-      (a.4 ∙ info_list strict severity message.BadTagName (offset_of object input) [] documented refl) (a.3, refl) (λ it is. is.1),
+          (a.4 ∙ info_list strict severity message.BadTagName (offset_of object input) [] documented refl) (a.3, refl) (λ it is. is.1),
     )
 
 -- ---- the tagger
@@ -143,7 +143,7 @@ tagger_list strict severity object documented input before after outcome (inl a)
   a.2 ∙ info_rest strict severity message.MissingTaggerEntry input documented refl,
   a.1 ∙ info_list strict severity message.MissingTaggerEntry (offset_of object input) before documented refl,
   one_message_list (finding_of message.MissingTaggerEntry (offset_of object input) ∷ []) message.MissingTaggerEntry (offset_of object input)
-  (λ (it : Message). TaggerLine input (Err it)) refl (inl (a.0, refl)) (only_tagger input message.MissingTaggerEntry (inl (a.0, refl))),
+      (λ (it : Message). TaggerLine input (Err it)) refl (inl (a.0, refl)) (only_tagger input message.MissingTaggerEntry (inl (a.0, refl))),
 )
 tagger_list strict severity object documented input before after outcome (inr (actor, rest, joined, line, is, inl a)) = (
   rest,
@@ -158,7 +158,7 @@ tagger_list strict severity object documented input before after outcome (inr (a
   is,
   a.2 ∙ serious_list severity a.0 (offset_of object input) before (serious_error strict severity a.0 documented (error_actor actor a.0 a.1)),
   one_message_list (finding_of a.0 (offset_of object input) ∷ []) a.0 (offset_of object input) (λ (it : Message). TaggerLine input (Err it)) refl
-  (inr (actor, joined, a.1)) (only_tagger input a.0 (inr (actor, joined, a.1))),
+      (inr (actor, joined, a.1)) (only_tagger input a.0 (inr (actor, joined, a.1))),
 )
 
 -- an extra header adds nothing

@@ -1,4 +1,5 @@
 pub mod Checks
 pub mod CommitChecks
 pub mod LineChecks
+pub mod Parser
 pub mod TagChecks

@@ -13,12 +13,7 @@ pub fn commit_findings_are_unique(kind: Kind, commit: &[u8], options: &Options)
 
 /// In a check without overrides the findings about a commit have the messages of
 /// [`commit_messages`](gixobj_fsck::commit_messages), as a set.
-pub fn commit_findings_have_its_messages(
-    kind: Kind,
-    commit: &[u8],
-    options: &Options,
-    strict: bool,
-)
+pub fn commit_findings_have_its_messages(kind: Kind, commit: &[u8], options: &Options, strict: bool)
     ensures { HaveCommitMessages strict (severity_by options.now) kind commit.now }
 {}
 
