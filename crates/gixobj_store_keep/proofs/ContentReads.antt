@@ -5,7 +5,7 @@ use Rattle.std.specs.Io.KnownBytes.{Consumes}
 use Rattle.gixobj_encode.specs.StreamHash.{IsStreamError, ReadsExactly, ReadsPrefix}
 use Rattle.gixobj_encode.specs.declared.stream_hash.Error.{Error}
 use Rattle.gixobj_encode.specs.declared.stream_hash.Error.TheVariants.{Io, UnexpectedEof}
-use Rattle.gixobj_store_keep.specs.Memory.{IsContentError}
+use Rattle.gixobj_store_keep.specs.Memory.{IsContentError, ReadsUpTo}
 use Rattle.gixobj_store_keep.specs.declared.write.Error.TheVariants.{Read}
 
 -- these bytes were read, and `missing` bytes remain
@@ -50,3 +50,18 @@ content_error_after_piece may_fail may_fail' before here after size missing cont
     (lasting may, reads_prefix_after_piece before here after size missing content so_far part)
 content_error_after_piece may_fail may_fail' before here after size missing content UnexpectedEof so_far lasting (part, ended) =
     (reads_prefix_after_piece before here after size missing content so_far part, ended)
+
+-- a piece that has no room in memory is read too
+pub reads_up_to_with_piece : (before here after : Option (List ℕ)) (size missing count : ℕ) (content piece : List ℕ)
+    → ReadsSoFar before here size missing content
+    → Consumes here after piece → count ≡ length piece → count ≤ missing → ReadsUpTo before after size
+reads_up_to_with_piece before here after size missing count content piece so_far taken counted fits = record {
+  bytes = content ++ piece;
+  consumed = Consumes-trans before here after content piece so_far.consumed taken;
+  bounded = omega (arith, so_far.counted, counted, fits, length-append content piece);
+}
+
+pub reads_up_to_of_reads_exactly : (before after : Option (List ℕ)) (size : ℕ) (content : List ℕ) → ReadsExactly before after size content
+    → ReadsUpTo before after size
+reads_up_to_of_reads_exactly before after size content reads =
+    record { bytes = content; consumed = reads.consumed; bounded = omega (arith, reads.counted) }

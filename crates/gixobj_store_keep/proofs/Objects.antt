@@ -1,5 +1,5 @@
 -- Lookups and insertions in the map of the store in memory: for the calls of `Memory`.
-use Rattle.std.proofs.Common.{◌≡◌, ◌++◌, ℕ, Bool, List, [], Some, true, false, ap, refl, sym, ◌∙◌}
+use Rattle.std.proofs.Common.{◌≡◌, ◌++◌, ℕ, Bool, List, [], Some, None, true, false, ap, refl, sym, ◌∙◌}
 use Rattle.std.specs.BTreeMap.{Updates, get, is_at}
 use Rattle.std.specs.FinMap as finite
 use Rattle.std.specs.Option.{option_map}
@@ -24,6 +24,10 @@ use Rattle.gixobj_store_keep.specs.declared.memory.Stored.{Stored}
 -- the id names the object of the map
 pub named_memory_objects : (store : Memory) (id : ObjectId) → named (memory_objects store) id ≡ option_map stored_object (get id_cmp store.objects id)
 named_memory_objects store id = named_from_entries stored_object id store.objects.entries
+
+-- an id that the map lacks names nothing
+pub named_none_of_absent : (store : Memory) (id : ObjectId) → get id_cmp store.objects id ≡ None → named (memory_objects store) id ≡ None
+named_none_of_absent store id absent = named_memory_objects store id ∙ ap (option_map stored_object) absent
 
 option_map_stored_object_cond : (b : Bool) (it : Stored) (rest : Option Stored)
     → option_map stored_object (cond b (Some it) rest) ≡ cond b (Some (stored_object it))

@@ -1,6 +1,7 @@
 -- The model of the store in memory.
-use Rattle.std.specs.Prelude.{◌≡◌, ℕ, List, Option, codes, map, ⊤}
+use Rattle.std.specs.Prelude.{◌≡◌, ◌≤◌, ℕ, List, Option, codes, length, map, ⊤}
 use Rattle.std.specs.FinMap as finite
+use Rattle.std.specs.Io.KnownBytes.{Consumes}
 use Rattle.bstr.specs.Owned.{bstring_bytes}
 use Rattle.gixobj_store.specs.Stores.{Objects, StoredObject}
 use Rattle.gixobj_encode.specs.StreamHash.{IsStreamError}
@@ -54,9 +55,15 @@ IsMemoryWriteError Rejects content write.OutOfMemory = ⊤
 IsMemoryWriteError Rejects content (write.Read cause) = ⊥
 IsMemoryWriteError Rejects content (write.Store message) = ⊥
 
--- the error of reading the content of an object: that of the stream; or out of memory
+-- at most `count` bytes were read
+pub record ReadsUpTo (before after : Option (List ℕ)) (count : ℕ) : Type 0 where
+  pub bytes : List ℕ
+  pub consumed : Consumes before after bytes
+  pub bounded : length bytes ≤ count
+
+-- the error of reading the content of an object: that of the stream; or out of memory, after at most `size` bytes
 abbrev pub IsContentError : Type 0 → Option (List ℕ) → Option (List ℕ) → ℕ → written.Error → Type 0
 IsContentError may_fail before after size (write.Read cause) = IsStreamError may_fail before after size cause
-IsContentError may_fail before after size write.OutOfMemory = ⊤
+IsContentError may_fail before after size write.OutOfMemory = ReadsUpTo before after size
 IsContentError may_fail before after size (write.Encode cause) = ⊥
 IsContentError may_fail before after size (write.Store message) = ⊥

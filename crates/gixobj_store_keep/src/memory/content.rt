@@ -1,5 +1,5 @@
 //! Reads of the content of an object.
-ghost use Rattle.std.specs.Prelude.{◌≡◌, IfErr, IfOk};
+ghost use Rattle.std.specs.Prelude.{◌≡◌, ◌<◌, IfErr, IfOk, OnErr};
 ghost use Rattle.gixobj_encode.specs.StreamHash.{ReadsExactly};
 ghost use Rattle.gixobj_store_keep.specs.Memory.{IsContentError};
 
@@ -18,6 +18,7 @@ pub(super) fn read_content<S: Source>(
         ReadsExactly (S.rest source.old) (S.rest source.new) size content.items) }
     ensures error { IfErr result (IsContentError (S.may_fail source.old) (S.rest source.old)
         (S.rest source.new) size) }
+    ensures allocates { OnErr result (0 < size) }
     ensures same_loan { S.loan source.new ≡ S.loan source.old }
 {
     let mut content = Vec::new(alloc);

@@ -1,9 +1,10 @@
 //! Writes of objects to a store in memory.
-ghost use Rattle.std.specs.Prelude.{◌≡◌, ℕ, List, IfErr, IfOk, OnErr, OnOk, ⊤};
+ghost use Rattle.std.specs.Prelude.{◌≡◌, ◌<◌, ◌⊎◌, [], ℕ, List, IfErr, IfOk, None, OnErr, OnOk, ⊤};
 ghost use Rattle.std.specs.FinMap as map;
 ghost use Rattle.gixobj_encode.specs.StreamHash.{ReadsExactly};
 ghost use Rattle.gixobj_streams.specs.Writing.{RejectsNothing};
 ghost use Rattle.gixobj_hash.specs.Hash.{id_kind, id_of};
+ghost use Rattle.gixobj_store.specs.Stores.{named};
 ghost use Rattle.gixobj_store_keep.specs.Memory.{IsContentError, IsMemoryWriteError, memory_objects};
 ghost use Rattle.gixobj_store_keep.specs.declared.write.Error.TheVariants as write_error;
 
@@ -73,7 +74,8 @@ impl Memory {
     ///
     /// - [`Error::Read`] with `Io` if the reader fails, or with `UnexpectedEof` if it ends before `size` bytes.
     ///   Fewer than `size` bytes have then been read.
-    /// - [`Error::OutOfMemory`] if an allocation fails.
+    /// - [`Error::OutOfMemory`] if an allocation fails, after at most `size` bytes. It never comes for empty
+    ///   content whose id the store has.
     pub fn write_stream<R: Read>(
         &mut self,
         object_hash: hash::Kind,
@@ -89,6 +91,8 @@ impl Memory {
         ensures unchanged { OnErr result (memory_objects self.new ≡ memory_objects self.old) }
         ensures error { IfErr result (IsContentError ⊤ (R.remaining from.old) (R.remaining from.new)
             size) }
+        ensures allocates { IfErr result (λ error. error ≡ write_error.OutOfMemory → (0 < size)
+            ⊎ (named (memory_objects self.old) (id_of object_hash kind []) ≡ None)) }
     {
         let content = read_content(self.alloc, &mut FromRead(from), size)?;
         self.insert_content(object_hash, kind, content)
@@ -113,6 +117,8 @@ impl Memory {
         ensures unchanged { OnErr result (memory_objects self.new ≡ memory_objects self.old) }
         ensures error { IfErr result (IsContentError ⊤ (R.remaining from.old) (R.remaining from.new)
             size) }
+        ensures allocates { IfErr result (λ error. error ≡ write_error.OutOfMemory → (0 < size)
+            ⊎ (named (memory_objects self.old) id ≡ None)) }
     {
         let content = read_content(self.alloc, &mut FromRead(from), size)?;
         self.insert_known_content(id, kind, content)
@@ -131,6 +137,8 @@ impl Memory {
             (record { kind = kind; object_hash = object_hash; bytes = bytes.items })) }
         ensures unchanged { OnErr result (memory_objects self.new ≡ memory_objects self.old) }
         ensures error { IfErr result (λ error. error ≡ write_error.OutOfMemory) }
+        ensures allocates { OnErr result (named (memory_objects self.old)
+            (id_of object_hash kind bytes.items) ≡ None) }
     {
         let id = compute_hash(object_hash, kind, &bytes);
         let stored = Stored {
@@ -154,6 +162,7 @@ impl Memory {
             (record { kind = kind; object_hash = id_kind id; bytes = bytes.items })) }
         ensures unchanged { OnErr result (memory_objects self.new ≡ memory_objects self.old) }
         ensures error { IfErr result (λ error. error ≡ write_error.OutOfMemory) }
+        ensures allocates { OnErr result (named (memory_objects self.old) id ≡ None) }
     {
         let stored = Stored {
             kind,
