@@ -14,7 +14,7 @@ use Rattle.gixobj_hash.specs.declared.hash.object_id.ObjectId.{ObjectId}
 use Rattle.gixobj_store.specs.Stores.{Objects, StoreModel}
 use Rattle.gixobj_editor_files.specs.Edits.{IsNoTree, Opens, arrived, counted, upserted_dirs, raised}
 use Rattle.gixobj_editor_files.specs.Files.{Path, SameFiles, Trees, Upserted}
-use Rattle.gixobj_editor_files.specs.OpeningStops.{StopsOpening, IsUnopenedAbove}
+use Rattle.gixobj_editor_files.specs.OpeningStops.{CountsEachLookup, StopsOpening, IsUnopenedAbove}
 use Rattle.gixobj_editor_files.specs.Opening.{Dirs, IsOpened, OpenFiles}
 use Rattle.gixobj_editor_files.specs.State.{DirMap, EditorFiles, State, open_bases, open_dirs}
 use Rattle.gixobj_editor_files.specs.Unopened.{is_unopened, looked_up_entry, unopened_count}
@@ -347,6 +347,15 @@ module _ {S : Type 0} (store : S) (hash : Kind) (prefix : Path) (trees : Trees) 
   opened_so model it ds ds' n m old view path head last is queries opens count failure other =
       stay_at model it ds ds' n m old view path failure
       (opened_in_part (model.objects store) (model.may_fail store) trees path head last [] is (dirs_of ds) (dirs_of ds') queries opens n m count failure other)
+
+  -- each lookup is counted
+  pub counted_at : {StopsBefore : EntryView → Type 0} (ds ds' : Opened) (n m : ℕ) (old : State S) → made ds n ≡ old → (path : Path)
+      → CountsEachLookup StopsBefore trees path (dirs_of ds) (dirs_of ds') n m
+      → CountsEachLookup StopsBefore trees path (open_dirs old) (map_dirs ds') old.lookups m
+  counted_at {StopsBefore} ds ds' n m old view path so =
+      subst (λ (o : State S). CountsEachLookup StopsBefore trees path (open_dirs o) (map_dirs ds') o.lookups m) view
+      (subst (λ (d : Dirs). CountsEachLookup StopsBefore trees path d (map_dirs ds') n m) (sym (map_dirs_eq ds))
+      (subst (λ (d : Dirs). CountsEachLookup StopsBefore trees path (dirs_of ds) d n m) (sym (map_dirs_eq ds')) so))
 
   -- the error of an opening that halts
   some_name : (head : Path) (last : List ℕ) → head ++ last ∷ [] ≢ []

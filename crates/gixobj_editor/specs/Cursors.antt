@@ -22,7 +22,7 @@ use Rattle.gixobj_tree_entries.specs.Entries.{EntryView, Pair}
 use Rattle.gixobj_editor_lookups.specs.RemovalErrors.{EditErrors}
 use Rattle.gixobj_editor_lookups.specs.EditNames.{IsFirstNameError}
 use Rattle.gixobj_editor.specs.Upserts.{IsNameError, IsUnopenedError}
-use Rattle.gixobj_editor.specs.FailedEdits.{IsFailedEditIn}
+use Rattle.gixobj_editor.specs.FailedEdits.{HasCountedIn, IsFailedEditIn}
 use Rattle.gixobj_editor_lookups.specs.declared.error.Error.{Error}
 use Rattle.gixobj_editor_lookups.specs.declared.error.Error.TheVariants as error
 pub use Rattle.gixobj_editor_lookups.specs.EditNames.{from_root}
@@ -47,10 +47,11 @@ IsCursorError objects may_fail trees dirs path (error.CannotRemoveNonLeaf at) = 
 IsCursorError objects may_fail trees dirs path error.OutOfMemory = AreNames path × (path ≢ [])
 
 -- the effect of a cursor at a path that fails with this error: that of a failed edit in the directory; the editor is
--- unchanged after an invalid name
+-- unchanged after an invalid name, and has counted each lookup if memory ran out
 abbrev pub IsFailedCursorIn : {S : Type 0} → StoreModel S → State S → Path → State S → Error → Type 0
 IsFailedCursorIn model old path new failure =
     IsFailedEditIn model old (with_empty_name path) new failure × (IsNameError failure → new ≡ old)
+    × HasCountedIn model.objects IsNoTree old (with_empty_name path) new failure
 
 -- the errors of an edit by a cursor: those of the editor; and out of memory for the path from the root, if the path has
 -- names

@@ -1,6 +1,6 @@
 -- The effect of a failed edit: how far it opened directories, which lookups it made, and which of them failed.
 use Rattle.std.specs.Prelude.{◌≡◌, ℕ, List, [], Some, ⊤}
-use Rattle.gixobj_store.specs.Stores.{StoreModel}
+use Rattle.gixobj_store.specs.Stores.{Objects, StoreModel}
 use Rattle.gixobj_editor_lookups.specs.Openings.{EndsBefore, OfTrees}
 use Rattle.gixobj_editor_lookups.specs.declared.opening.NotLookedUp.{NotLookedUp}
 use Rattle.gixobj_editor_files.specs.Bases.{HasBases, opened_bases}
@@ -12,7 +12,7 @@ use Rattle.gixobj_editor_files.specs.Tables.{AgreesWithStore}
 use Rattle.gixobj_tree_entries.specs.Entries.{EntryView}
 use Rattle.gixobj_editor_lookups.specs.declared.error.Error.{Error}
 use Rattle.gixobj_editor_lookups.specs.declared.error.Error.TheVariants as error
-pub use Rattle.gixobj_editor_lookups.specs.FailedOpenings.{IsErrorAfterLookup, IsLookupError, OpensInPart, edit_error}
+pub use Rattle.gixobj_editor_lookups.specs.FailedOpenings.{HasCounted, IsErrorAfterLookup, IsLookupError, OpensInPart, edit_error}
 
 -- the effect of an edit that fails with this error: directories on the path are opened in part. An open directory is
 -- still open, with its entries. The files and the rest are unchanged
@@ -34,3 +34,9 @@ pub record IsAfterFailedEdit {S : Type 0} (model : StoreModel S) (trees : Trees)
 abbrev pub IsFailedEditIn : {S : Type 0} → StoreModel S → State S → Path → State S → Error → Type 0
 IsFailedEditIn model old path new failure =
     OfTrees (model.objects old.store) (λ trees. IsAfterFailedEdit model trees old path failure new)
+
+-- an edit at this path that runs out of memory has counted each lookup, by the store's trees
+abbrev pub HasCountedIn : {S : Type 0} → (S → Objects) → (EntryView → Type 0) → State S → Path → State S → Error
+    → Type 0
+HasCountedIn objects StopsBefore old path new failure = OfTrees (objects old.store) (λ trees.
+    HasCounted StopsBefore trees path (open_dirs old) (open_dirs new) old.lookups new.lookups failure)

@@ -7,7 +7,7 @@ ghost use Rattle.std.specs.Option.{option_copied};
 ghost use Rattle.gixobj_store.specs.Stores.{store_model};
 ghost use Rattle.gixobj_tree.specs.WellFormed.{IsWellFormed};
 ghost use Rattle.gixobj_tree_entries.specs.Mode.{mode_of_kind};
-ghost use Rattle.gixobj_editor_files.specs.Edits.{entry_at};
+ghost use Rattle.gixobj_editor_files.specs.Edits.{IsNoTree, IsNotLookedUp, entry_at};
 ghost use Rattle.gixobj_editor_files.specs.Files.{Files, SameFiles, Table};
 ghost use Rattle.gixobj_editor_files.specs.Opening.{IsOpened};
 ghost use Rattle.gixobj_editor_files.specs.Bases.{HasBases};
@@ -19,7 +19,7 @@ ghost use Rattle.gixobj_editor.specs.Writes.{IsWrittenEditor};
 ghost use Rattle.gixobj_editor_lookups.specs.Openings.{OfTrees};
 ghost use Rattle.gixobj_editor_lookups.specs.EditNames.{StartsInvalid};
 ghost use Rattle.gixobj_editor.specs.Upserts.{IsNameError, IsUpserted, IsErrorIn, IsUpsertError};
-ghost use Rattle.gixobj_editor.specs.FailedEdits.{IsFailedEditIn};
+ghost use Rattle.gixobj_editor.specs.FailedEdits.{HasCountedIn, IsFailedEditIn};
 ghost use Rattle.gixobj_editor.specs.Removals.{IsLeafRemoved, IsRemoved, IsLeafRemovalError, IsRemovalError};
 ghost use Rattle.gixobj_editor.specs.contracts.editor.Editor.{the_row};
 
@@ -86,9 +86,8 @@ impl<S> Model for Editor<S> {
 impl<S> Editor<S> {
     /// Makes an editor of this tree over an object store, with ids of this hash kind.
     ///
-    /// The root must be well-formed, as [`Tree::is_well_formed`] reports. A directory that an edit makes has
-    /// the null id of `object_hash` until a write. Ids of the other kind are accepted unchanged. Allocates
-    /// nothing.
+    /// The root must be well-formed, as [`Tree::is_well_formed`] reports. A directory that an edit makes has the
+    /// null id of `object_hash` until a write. Ids of the other kind are accepted unchanged. Allocates nothing.
     ///
     /// # Examples
     ///
@@ -151,8 +150,8 @@ impl<S> Editor<S> {
 
     /// Returns the number of trees looked up in the store since the editor was made. It saturates at `u64::MAX`.
     ///
-    /// A failed lookup is counted too. Contracts say so of `try_upsert`, `try_remove`, `try_remove_leaf` and
-    /// `cursor_at`, except for a lookup that runs out of memory. Allocates nothing.
+    /// A failed lookup is counted too, also one that runs out of memory. Contracts say so of `try_upsert`,
+    /// `try_remove`, `try_remove_leaf` and `cursor_at`. Allocates nothing.
     pub fn lookups(&self) -> u64
         ensures { result ≡ self.now.lookups }
     {
@@ -252,8 +251,7 @@ impl<S: Find> Editor<S> {
     ///
     /// - [`Error::EmptyPathComponent`] if the first invalid name is empty, before any lookup;
     /// - [`Error::SlashInPathComponent`] if the first invalid name contains a `/`, before any lookup;
-    /// - [`Error::FindExistingObject`] with the lookup's error, for the first directory that isn't found as a
-    ///   tree;
+    /// - [`Error::FindExistingObject`] with the lookup's error, for the first directory not found as a tree;
     /// - [`Error::MalformedTree`] for the first directory whose tree isn't well-formed;
     /// - [`Error::OutOfMemory`] if allocation fails, only for a path with names.
     ///
@@ -272,6 +270,8 @@ impl<S: Find> Editor<S> {
             self.old (names_of path.now) self.new) }
         ensures error { IfErr result (IsErrorIn (store_model S.objects S.may_fail) self.old
             IsUpsertError (names_of path.now)) }
+        ensures lookups { IfErr result (HasCountedIn S.objects IsNoTree self.old
+            (names_of path.now) self.new) }
         ensures unchanged { IfErr result (λ error. IsNameError error → self.new ≡ self.old) }
     {
         let alloc = *self.prefix.allocator();
@@ -326,6 +326,8 @@ impl<S: Find> Editor<S> {
             self.old (names_of path.now) self.new) }
         ensures error { IfErr result (IsErrorIn (store_model S.objects S.may_fail) self.old
             IsRemovalError (names_of path.now)) }
+        ensures lookups { IfErr result (HasCountedIn S.objects IsNoTree self.old
+            (names_of path.now) self.new) }
         ensures unchanged { OnErr result (StartsInvalid (names_of path.now) → self.new ≡ self.old) }
     {
         let alloc = *self.prefix.allocator();
@@ -359,6 +361,8 @@ impl<S: Find> Editor<S> {
             self.old (names_of path.now) self.new) }
         ensures error { IfErr result (IsErrorIn (store_model S.objects S.may_fail) self.old
             IsLeafRemovalError (names_of path.now)) }
+        ensures lookups { IfErr result (HasCountedIn S.objects IsNotLookedUp self.old
+            (names_of path.now) self.new) }
         ensures unchanged { OnErr result (StartsInvalid (names_of path.now) → self.new ≡ self.old) }
     {
         let alloc = *self.prefix.allocator();
@@ -394,10 +398,9 @@ impl<S> Editor<S> {
 impl<S: Clone> Editor<S> {
     /// Copies the editor, with a clone of its store, which must equal the store.
     ///
-    /// The copy has the same open directories with their bases, and the same number of lookups. Both editors
-    /// emit the same trees in the next write, if `out` returns the same ids. Allocates for each open
-    /// directory, its entries and its base, a list as long as the path is deep, and the names of the newest
-    /// cursor's path.
+    /// The copy has the same open directories with their bases, and the same number of lookups. Both editors emit
+    /// the same trees in the next write, if `out` returns the same ids. Allocates for each open directory, its
+    /// entries and its base, a list as long as the path is deep, and the names of the newest cursor's path.
     ///
     /// # Errors
     ///
@@ -460,11 +463,10 @@ impl<S> Editor<S> {
     /// Directories come in the order of their entries, each after those in it. Then only the root is open,
     /// with the emitted tree.
     ///
-    /// A directory is changed if its written tree differs from its base. That is the tree that it was opened
-    /// with, or the empty tree if an edit made it. An unchanged one that has entries isn't emitted: it keeps
-    /// its id, and [`Written::saved`] counts it. A directory that is empty then is left out, as are entries
-    /// with null ids. The id that `out` returns for a tree becomes its id in the tree above; a null id leaves
-    /// it out.
+    /// A directory is changed if its written tree differs from its base. That is the tree that it was opened with,
+    /// or the empty tree if an edit made it. An unchanged one that has entries isn't emitted: it keeps its id, and
+    /// [`Written::saved`] counts it. A directory that is empty then is left out, as are entries with null ids. The
+    /// id that `out` returns for a tree becomes its id in the tree above; a null id leaves it out.
     ///
     /// Whenever the call returns an id, that tree has exactly the editor's files, which are unchanged. This
     /// holds in each table that has the emitted trees and the bases of the open directories.

@@ -64,7 +64,7 @@ module _ (trees : Trees) where
       → (prefix back : Path) × (answered tried : List ObjectId) × (path ≡ prefix ++ back) × Opens StopsBefore trees prefix old new answered
       × (looked_up ≡ answered ++ tried) × (tried ≡ failed_ids failed_lookup)
       × ((it : ObjectId) → tried ≡ it ∷ [] → IsNextUnopened trees old prefix back it)
-  halts_opens path old new looked_up failed_lookup (before_lookup name rest d e entry tree free none) =
+  halts_opens path old new looked_up failed_lookup (before_lookup name rest d e entry tree free none idle) =
       ([], name ∷ rest, [], [], refl, arrived d, refl, refl, λ it is. absurd (cc is))
   halts_opens path old new looked_up failed_lookup (at_lookup name rest d e entry tree free none filled) = (
     [],
@@ -110,11 +110,73 @@ module _ (trees : Trees) where
         λ it tried. next_found name d e entries first entry tree none finds r.0 r.1 it (r.8 it tried),
       )
 
+  -- an opening stops before a directory of its path; if this isn't open and would be looked up, its lookup is the one that failed
+  pub halts_next : {StopsBefore : EntryView → Type 0} (path : Path) (old new : Dirs) (looked_up : List ObjectId) (failed_lookup : Option ObjectId)
+      → StopsOpening StopsBefore trees path old new looked_up failed_lookup
+      → (prefix : Path) × (next : List ℕ) × (rest : Path) × (answered : List ObjectId) × (path ≡ prefix ++ next ∷ rest)
+      × Opens StopsBefore trees prefix old new answered × (looked_up ≡ answered ++ failed_ids failed_lookup)
+      × ((e : EntryView) → is_unopened trees old (prefix ++ next ∷ []) ≡ true → looked_up_entry trees (prefix ++ next ∷ []) old ≡ Some e
+      → failed_ids failed_lookup ≡ e.id ∷ [])
+  halts_next path old new looked_up failed_lookup (before_lookup name rest d e entry tree free none idle) = (
+    [],
+    name,
+    rest,
+    [],
+    refl,
+    arrived d,
+    refl,
+    λ it unopened seen. absurd (let bad : true ≡ false = sym unopened ∙ unopened_here trees name d e entry tree (none []) ∙ needs_no_lookup e.id idle in cc bad),
+  )
+  halts_next path old new looked_up failed_lookup (at_lookup name rest d e entry tree free none filled) = (
+    [],
+    name,
+    rest,
+    [],
+    refl,
+    arrived d,
+    refl,
+    λ it unopened seen. let here = first_entry_of_has_at name (d []) e entry in let same : e ≡ it = cc (here, seen) in ap (λ (x : EntryView). x.id ∷ []) same,
+  )
+  halts_next path old new looked_up failed_lookup (halting.down name rest d inner e entries more v has named is halts) =
+      let r = halts_next rest (in_dir name d) inner more v halts in
+      let remaining = one_more r.0 r.1 [] in (
+        name ∷ r.0,
+        r.1,
+        r.2,
+        r.3,
+        ap (λ p. name ∷ p) r.4,
+        down name r.0 d inner e entries r.3 has named is r.5,
+        r.6,
+        λ it unopened seen. r.7 it
+            (subst (λ q. is_unopened trees (in_dir name d) q ≡ true) (sym remaining.2) (sym (unopened_open trees name remaining.0 remaining.1 d entries is)
+            ∙ subst (λ q. is_unopened trees d (name ∷ q) ≡ true) remaining.2 unopened))
+            (subst (λ q. looked_up_entry trees q (in_dir name d) ≡ Some it) (sym remaining.2) (sym (known_open trees name remaining.0 remaining.1 d entries is)
+            ∙ subst (λ q. looked_up_entry trees (name ∷ q) d ≡ Some it) remaining.2 seen)),
+      )
+  halts_next path old new looked_up failed_lookup (halting.found name rest d inner e entries first more v entry tree free none finds halts) =
+      let r = halts_next rest (only_open entries) inner more v halts in
+      let remaining = one_more r.0 r.1 [] in (
+        name ∷ r.0,
+        r.1,
+        r.2,
+        first ++ r.3,
+        ap (λ p. name ∷ p) r.4,
+        found name r.0 d inner e entries first r.3 entry tree free none finds r.5,
+        ap (λ ids. first ++ ids) r.6 ∙ sym (append_assoc first r.3 (failed_ids v)),
+        λ it unopened seen. r.7 it
+            (subst (λ q. is_unopened trees (only_open entries) q ≡ true) (sym remaining.2)
+            (sym (unopened_found trees name remaining.0 remaining.1 d e entries first entry tree none finds)
+            ∙ subst (λ q. is_unopened trees d (name ∷ q) ≡ true) remaining.2 unopened))
+            (subst (λ q. looked_up_entry trees q (only_open entries) ≡ Some it) (sym remaining.2)
+            (sym (found_below trees name remaining.0 remaining.1 d e entries first entry tree (none []) finds)
+            ∙ subst (λ q. looked_up_entry trees (name ∷ q) d ≡ Some it) remaining.2 seen)),
+      )
+
   -- an opening that stopped looked up at most as many ids as there are unopened directories
   pub halted_count : {StopsBefore : EntryView → Type 0} (path : Path) (last : List ℕ) (after : Path) (old new : Dirs) (looked_up : List ObjectId)
       (failed_lookup : Option ObjectId) → StopsOpening StopsBefore trees path old new looked_up failed_lookup → length looked_up ≤ unopened_count trees old
       (path ++ last ∷ after)
-  halted_count path last after old new looked_up failed_lookup (before_lookup name rest d e entry tree free none) = omega arith
+  halted_count path last after old new looked_up failed_lookup (before_lookup name rest d e entry tree free none idle) = omega arith
   halted_count path last after old new looked_up failed_lookup (at_lookup name rest d e entry tree free none filled) =
       count_vain trees name rest last after d e entry tree (none []) filled
   halted_count path last after old new looked_up failed_lookup (halting.down name rest d inner e entries more v has named is halts) =
@@ -171,7 +233,7 @@ module _ (trees : Trees) where
       (failed_lookup : Option ObjectId)
       → StopsOpening StopsBefore trees path old new looked_up failed_lookup → (it : ObjectId) → failed_lookup ≡ Some it
       → (h : IsUnopenedAbove trees old (path ++ last ∷ after) it) × (rest : Path) × (path ≡ h.parent ++ rest)
-  halted_at path last after old new looked_up failed_lookup (before_lookup name rest d e entry tree free none) it is = absurd (cc is)
+  halted_at path last after old new looked_up failed_lookup (before_lookup name rest d e entry tree free none idle) it is = absurd (cc is)
   halted_at path last after old new looked_up failed_lookup (at_lookup name rest d e entry tree free none filled) it is =
       let remaining = one_more rest last after in (
         record {
@@ -212,7 +274,7 @@ module _ (trees : Trees) where
   pub halted_unopened : {StopsBefore : EntryView → Type 0} (path : Path) (last : List ℕ) (after : Path) (old new : Dirs) (looked_up : List ObjectId)
       (failed_lookup : Option ObjectId) → StopsOpening StopsBefore trees path old new looked_up failed_lookup
       → IsEnteredOnPath StopsBefore trees old (path ++ last ∷ after)
-  halted_unopened path last after old new looked_up failed_lookup (before_lookup name rest d e entry tree free none) =
+  halted_unopened path last after old new looked_up failed_lookup (before_lookup name rest d e entry tree free none idle) =
       not_open_here name rest last after d e entry tree free none
   halted_unopened path last after old new looked_up failed_lookup (at_lookup name rest d e entry tree free none filled) =
       not_open_here name rest last after d e entry tree free none

@@ -1,14 +1,14 @@
 -- Directories on a path that are opened in part, by the end of the opening: for `Edited`, `Removing`, `RemovedAt` and
 -- `CursorPrefixes`.
-use Rattle.std.proofs.Common.{◌≡◌, ◌∙◌, ◌≤◌, ℕ, Bool, List, [], ◌∷◌, ◌++◌, Option, Some, None, append-nil, append_assoc, arith, length, refl, sym, ap, subst}
+use Rattle.std.proofs.Common.{true, ◌≡◌, ◌∙◌, ◌≤◌, ℕ, Bool, List, [], ◌∷◌, ◌++◌, Option, Some, None, append-nil, append_assoc, arith, length, refl, sym, ap, subst}
 use Rattle.gixobj_tree_entries.specs.Entries.{EntryView}
 use Rattle.gixobj_hash.specs.declared.hash.object_id.ObjectId.{ObjectId}
 use Rattle.gixobj_editor_files.specs.Edits.{Opens, arrived, counted}
 use Rattle.gixobj_editor_files.specs.Files.{Path, Trees}
-use Rattle.gixobj_editor_files.specs.OpeningStops.{StopsOpening, IsNextUnopened}
+use Rattle.gixobj_editor_files.specs.OpeningStops.{CountsEachLookup, StopsOpening, IsNextUnopened}
 use Rattle.gixobj_editor_files.specs.Opening.{Dirs}
-use Rattle.gixobj_editor_files.specs.Unopened.{unopened_count}
-use Rattle.gixobj_editor_files.proofs.StoppedOpenings.{failed_ids, halted_count, halts_opens}
+use Rattle.gixobj_editor_files.specs.Unopened.{is_unopened, looked_up_entry, unopened_count}
+use Rattle.gixobj_editor_files.proofs.StoppedOpenings.{failed_ids, halted_count, halts_next, halts_opens}
 use Rattle.gixobj_editor_files.proofs.UnopenedCounts.{opens_at_most}
 use Rattle.gixobj_store.specs.Stores.{Objects}
 use Rattle.gixobj_editor_lookups.specs.Openings.{IsOpenErrorAt}
@@ -91,3 +91,41 @@ module _ {StopsBefore : EntryView → Type 0} (objects : Objects) (may_fail : Ob
         at_most_unopened = subst (λ ids. length ids ≤ unopened_count trees old path) came.6
             (subst (λ p. length queries ≤ unopened_count trees old p) (sym is) (halted_count trees head last after old new queries failed_lookup halts));
       }
+
+-- each lookup of an opening is counted
+module _ {StopsBefore : EntryView → Type 0} (trees : Trees) where
+  -- the opening halted
+  pub halted_counts : (path head : Path) (last : List ℕ) (after : Path) → path ≡ head ++ last ∷ after
+      → (old new : Dirs) (queries : List ObjectId) (failed_lookup : Option ObjectId)
+      → StopsOpening StopsBefore trees head old new queries failed_lookup → (n m : ℕ) → m ≡ counted n queries
+      → CountsEachLookup StopsBefore trees path old new n m
+  halted_counts path head last after is old new queries failed_lookup halts n m count =
+      let r = halts_next trees head old new queries failed_lookup halts in
+      record {
+        reached = r.0;
+        more = r.1 ∷ (r.2 ++ last ∷ after);
+        on_the_way = is ∙ ap (λ p. p ++ last ∷ after) r.4 ∙ append_assoc r.0 (r.1 ∷ r.2) (last ∷ after);
+        looked_up = r.3;
+        opens = r.5;
+        last_lookup = failed_ids failed_lookup;
+        lookups = count ∙ ap (counted n) r.6;
+        next = λ it (name, next, rest, e, more_is, unopened, seen, named).
+            let same : r.1 ≡ name = cc more_is in
+            r.7 e (subst (λ w. is_unopened trees old (r.0 ++ w ∷ []) ≡ true) (sym same) unopened)
+            (subst (λ w. looked_up_entry trees (r.0 ++ w ∷ []) old ≡ Some e) (sym same) seen)
+            ∙ ap (λ (x : ObjectId). x ∷ []) named;
+      }
+
+  -- the directories above the last name are opened
+  pub opened_counts : (path head : Path) (last : List ℕ) → path ≡ head ++ last ∷ [] → (old new : Dirs) (queries : List ObjectId)
+      → Opens StopsBefore trees head old new queries → (n m : ℕ) → m ≡ counted n queries → CountsEachLookup StopsBefore trees path old new n m
+  opened_counts path head last is old new queries opens n m count = record {
+    reached = head;
+    more = last ∷ [];
+    on_the_way = is;
+    looked_up = queries;
+    opens = opens;
+    last_lookup = [];
+    lookups = count ∙ ap (counted n) (sym (append-nil queries));
+    next = λ it (name, next, rest, e, more_is, unopened, seen, named). absurd (cc more_is);
+  }

@@ -52,7 +52,7 @@ module _ {StopsBefore : EntryView → Type 0} (trees : Trees) where
 
   halts_nil : (path : Path) (old new : Dirs) (looked_up : List ObjectId) (failed : Option ObjectId)
       → StopsOpening StopsBefore trees path old new looked_up failed → path ≢ []
-  halts_nil path old new looked_up failed (before_lookup name rest d e own tree free none) is = cc is
+  halts_nil path old new looked_up failed (before_lookup name rest d e own tree free none idle) is = cc is
   halts_nil path old new looked_up failed (at_lookup name rest d e own tree free none filled) is = cc is
   halts_nil path old new looked_up failed (halting.down name rest d inner e entries more v has named there halts) is = cc is
   halts_nil path old new looked_up failed (halting.found name rest d inner e entries first more v own tree free none finds halts) is = cc is
@@ -107,8 +107,8 @@ module _ {StopsBefore : EntryView → Type 0} (trees : Trees) where
   pub halts_stays : (path : Path) (old new : Dirs) (looked_up : List ObjectId) (failed : Option ObjectId)
       → StopsOpening StopsBefore trees path old new looked_up failed → (name : List ℕ) → path ≡ name ∷ [] → (rest : Path)
       → StopsOpening StopsBefore trees (name ∷ rest) old new looked_up failed
-  halts_stays path old new looked_up failed (before_lookup n after d e own tree free none) name is rest =
-      subst (λ (m : List ℕ). StopsOpening StopsBefore trees (m ∷ rest) d d [] None) (same_head n name after [] is) (before_lookup n rest d e own tree free none)
+  halts_stays path old new looked_up failed (before_lookup n after d e own tree free none idle) name is rest =
+      subst (λ (m : List ℕ). StopsOpening StopsBefore trees (m ∷ rest) d d [] None) (same_head n name after [] is) (before_lookup n rest d e own tree free none idle)
   halts_stays path old new looked_up failed (at_lookup n after d e own tree free none filled) name is rest =
       subst (λ (m : List ℕ). StopsOpening StopsBefore trees (m ∷ rest) d d (e.id ∷ []) (Some e.id)) (same_head n name after [] is)
       (at_lookup n rest d e own tree free none filled)

@@ -250,14 +250,15 @@ stops_opening_here StopsBefore trees path name rest es ds cs new path_is {base} 
     (sym (ap (λ (l : List Child). opened es base (parts l)) same ∙ view))
     (subst (λ (d : Opened). StopsOpening StopsBefore trees (name ∷ rest) (dirs_of d) (dirs_of d) looked_up failed_lookup) view halts))
 
--- an opening stops at a directory if memory runs out
+-- an opening stops at a directory that is never looked up if memory runs out
 pub stops_opening_for_memory : (StopsBefore : EntryView → Type 0) (trees : Trees) (name : List ℕ) (rest : Path) (es : List EntryView) (cs : List Child)
     → IsLevel es (parts cs)
     → ((at : Path) → in_part name (parts cs) at ≡ None) → (e : EntryView) → IsEntryOf name (Some es) e → is_tree_mode e.mode ≡ true → (StopsBefore e → ⊥)
+    → IsNeverLookedUp e.id
     → StopsOpening StopsBefore trees (name ∷ rest) (dirs_of (opened es [] (parts cs))) (dirs_of (opened es [] (parts cs))) [] None
-stops_opening_for_memory StopsBefore trees name rest es cs level none e entry tree free =
+stops_opening_for_memory StopsBefore trees name rest es cs level none e entry tree free idle =
     before_lookup name rest (dirs_of (opened es [] (parts cs))) e entry tree free
-    (λ at. dirs_of_opened_cons es [] (parts cs) name at (level_names_apart level) ∙ none at)
+    (λ at. dirs_of_opened_cons es [] (parts cs) name at (level_names_apart level) ∙ none at) idle
 
 -- an opening stops at a directory whose tree isn't found
 pub stops_opening_not_found : (StopsBefore : EntryView → Type 0) (trees : Trees) (name : List ℕ) (rest : Path) (es : List EntryView) (cs : List Child)

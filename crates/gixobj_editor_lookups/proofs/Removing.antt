@@ -1,5 +1,5 @@
 -- How far the opening of a removal comes, and which names it validates; the proof of `open_for_removal` uses it.
-use Rattle.std.proofs.Common.{◌≡◌, ◌≢◌, ◌∙◌, ◌⊎◌, inl, inr, ℕ, Bool, List, [], ◌∷◌, ◌++◌, Option, Some, None, refl, sym, ap, subst}
+use Rattle.std.proofs.Common.{◌≡◌, ◌≢◌, ◌∙◌, ◌⊎◌, inl, inr, ℕ, Bool, List, [], ◌∷◌, ◌++◌, Option, Some, None, append-nil, refl, sym, ap, subst}
 use Rattle.std.proofs.lemmas.List.Elements.{All-cons, All-head, All-nil, All-tail}
 use Rattle.gixobj_tree_entries.specs.Entries.{EntryView}
 use Rattle.gixobj_tree.specs.WellFormed.{IsEntryName}
@@ -11,7 +11,7 @@ use Rattle.gixobj_editor_lookups.specs.declared.opening.Error as directory
 use Rattle.gixobj_editor_lookups.specs.declared.opening.Error.TheVariants as opening
 use Rattle.gixobj_editor_files.specs.Edits.{Opens, arrived, counted, down, found, stops}
 use Rattle.gixobj_editor_files.specs.Files.{Path, Trees}
-use Rattle.gixobj_editor_files.specs.OpeningStops.{ReachesDirectory, StopsOpening, before_lookup, at_lookup}
+use Rattle.gixobj_editor_files.specs.OpeningStops.{CountsEachLookup, ReachesDirectory, StopsOpening, before_lookup, at_lookup}
 use Rattle.gixobj_editor_files.specs.OpeningStops as halting
 use Rattle.gixobj_editor_files.specs.Opening.{Dirs}
 use Rattle.gixobj_editor_files.proofs.ReachedDirectories.{comes_open, open_comes, opens_of_longer_path}
@@ -23,7 +23,7 @@ use Rattle.gixobj_editor_lookups.specs.RemovalErrors.{ValidatesUpTo, IsRemovalEr
 use Rattle.gixobj_editor_lookups.specs.declared.error.Error.{Error}
 use Rattle.gixobj_editor_lookups.specs.declared.error.Error.TheVariants as error
 use Rattle.gixobj_editor_lookups.proofs.ValidNames.{no_lookup_of_name}
-use Rattle.gixobj_editor_lookups.proofs.InPart.{halted_in_part, opened_in_part}
+use Rattle.gixobj_editor_lookups.proofs.InPart.{halted_counts, halted_in_part, opened_counts, opened_in_part}
 use Rattle.gixobj_editor_lookups.proofs.Paths.{snoc_prefix_cases, directory_of_snoc}
 
 -- valid names of a path and of its parts
@@ -68,7 +68,7 @@ splits_at_first_invalid_cases path names (name ∷ rest) splits = inr (name, res
 pub no_halt : {StopsBefore : EntryView → Type 0} (trees : Trees) (path : Path) → path ≡ []
     → (old new : Dirs) (requested : List ObjectId) (failed_lookup : Option ObjectId)
     → StopsOpening StopsBefore trees path old new requested failed_lookup → ⊥
-no_halt trees path is old new requested failed_lookup (before_lookup name rest d e entry tree free none) = cc is
+no_halt trees path is old new requested failed_lookup (before_lookup name rest d e entry tree free none idle) = cc is
 no_halt trees path is old new requested failed_lookup (at_lookup name rest d e entry tree free none filled) = cc is
 no_halt trees path is old new requested failed_lookup (halting.down name rest d inner e entries more v has named there halts) = cc is
 no_halt trees path is old new requested failed_lookup (halting.found name rest d inner e entries first more v entry tree free none finds halts) = cc is
@@ -175,3 +175,33 @@ is_opened_for_of_opens {StopsBefore = StopsBefore} idle trees path names (bad �
     | inr (inr following) ↦ absurd (splits.1 (is_entry_name_of_member names bad following.0 (subst AreNames following.1 it.3)))
   ],
 )
+
+-- each lookup of the opening is counted, if it halts
+pub halted_removal_counts : {StopsBefore : EntryView → Type 0} (trees : Trees) (path names rejected : Path) → SplitsForRemoval path names rejected
+    → (old new : Dirs) (requested : List ObjectId) (failed_lookup : Option ObjectId)
+    → StopsOpening StopsBefore trees names old new requested failed_lookup → (n m : ℕ) → m ≡ counted n requested
+    → CountsEachLookup StopsBefore trees path old new n m
+halted_removal_counts trees path names rejected splits old new requested failed_lookup halts n m count =
+    elim (splits_at_first_invalid_cases path names rejected splits) [
+      | inl none ↦ absurd (no_halt trees names none.1 old new requested failed_lookup halts)
+      | inr remaining ↦ halted_counts trees path names remaining.0 remaining.1 remaining.2 old new requested failed_lookup halts n m count
+    ]
+
+-- and if the directories above the path are opened
+pub opened_above_counts : {StopsBefore : EntryView → Type 0} (trees : Trees) (path : Path) (old new : Dirs) (requested : List ObjectId)
+    → Opens StopsBefore trees (directory_of path) old new requested → (n m : ℕ) → m ≡ counted n requested
+    → CountsEachLookup StopsBefore trees path old new n m
+opened_above_counts {StopsBefore = StopsBefore} trees path old new requested opens n m count = elim (path_nil_or_snoc path) [
+  | inl none ↦ record {
+    reached = [];
+    more = [];
+    on_the_way = none;
+    looked_up = requested;
+    opens = subst (λ p. Opens StopsBefore trees p old new requested) (ap directory_of none) opens;
+    last_lookup = [];
+    lookups = count ∙ ap (counted n) (sym (append-nil requested));
+    next = λ it (name, next, rest, e, more_is, unopened, seen, named). absurd (cc more_is);
+  }
+  | inr ends ↦ opened_counts trees path ends.0 ends.1 ends.2 old new requested
+      (subst (λ p. Opens StopsBefore trees p old new requested) (ap directory_of ends.2 ∙ directory_of_snoc ends.0 ends.1) opens) n m count
+]

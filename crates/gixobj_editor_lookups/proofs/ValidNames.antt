@@ -50,3 +50,7 @@ no_lookup_of_name path (error.FindExistingObject cause) h = absurd (no_other_err
 no_lookup_of_name path (error.CannotRemoveNonLeaf at) h = λ it. it
 no_lookup_of_name path error.MalformedTree h = absurd (no_other_error path error.MalformedTree (λ name k. k) h)
 no_lookup_of_name path error.OutOfMemory h = λ it. it
+
+-- nor is it out of memory
+pub no_memory_of_name : (path : Path) (failure : Error) → IsFirstNameError path failure → failure ≡ error.OutOfMemory → ⊥
+no_memory_of_name path failure h is = no_other_error path error.OutOfMemory (λ name k. k) (subst (IsFirstNameError path) is h)

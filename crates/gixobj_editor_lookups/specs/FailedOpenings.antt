@@ -3,7 +3,7 @@ use Rattle.std.specs.Prelude.{◌≡◌, ◌≤◌, ◌++◌, ℕ, Bool, List, [
 use Rattle.gixobj_store.specs.Stores.{Objects}
 use Rattle.gixobj_editor_files.specs.Edits.{Opens, counted}
 use Rattle.gixobj_editor_files.specs.Files.{Path, Trees}
-use Rattle.gixobj_editor_files.specs.OpeningStops.{IsNextUnopened}
+use Rattle.gixobj_editor_files.specs.OpeningStops.{CountsEachLookup, IsNextUnopened}
 use Rattle.gixobj_editor_files.specs.Opening.{Dirs}
 use Rattle.gixobj_editor_files.specs.Unopened.{unopened_count}
 use Rattle.gixobj_hash.specs.declared.hash.object_id.ObjectId.{ObjectId}
@@ -52,3 +52,8 @@ pub record OpensInPart (StopsBefore : EntryView → Type 0) (objects : Objects) 
   pub next : (it : ObjectId) → failed_lookup ≡ it ∷ [] → IsNextUnopened trees old reached more it
   pub lookups : after ≡ counted before (looked_up ++ failed_lookup)
   pub at_most_unopened : length (looked_up ++ failed_lookup) ≤ unopened_count trees old path
+
+-- an edit that runs out of memory has counted each lookup
+abbrev pub HasCounted : (EntryView → Type 0) → Trees → Path → Dirs → Dirs → ℕ → ℕ → Error → Type 0
+HasCounted StopsBefore trees path old new before after failure = failure ≡ error.OutOfMemory
+    → CountsEachLookup StopsBefore trees path old new before after

@@ -200,7 +200,8 @@ fn load<S: Find>(
 /// tree's id isn't looked up. For it `not_looked_up` says whether it is opened as empty, or the opening
 /// ends above it.
 ///
-/// Each lookup is counted in `lookups`, a failed one too. The count saturates at the maximum of `u64`.
+/// Each lookup is counted in `lookups`, also one that fails or runs out of memory. The count saturates at the
+/// maximum of `u64`.
 ///
 /// Allocates the trees that it opens, a base for each, and their names. In a directory with 128 open
 /// directories or more it also allocates a part of their list.
@@ -349,8 +350,8 @@ fn open_recursively<S: Find>(
     let Some(id) = next_id(&node.entries, name, not_looked_up) else {
         return Ok(());
     };
-    let (own_name, piece) = node.children.room_for(alloc, name)?;
     let (tree, base) = load(alloc, store, id, lookups)?;
+    let (own_name, piece) = node.children.room_for(alloc, name)?;
     let mut inner = Open::with_base(alloc, tree, base);
     let opened = open_recursively(alloc, &mut inner, rest, not_looked_up, store, lookups);
     node.children.insert(piece, own_name, inner);

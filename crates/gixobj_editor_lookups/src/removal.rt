@@ -14,7 +14,7 @@ ghost use Rattle.gixobj_tree_entries.specs.Entries.{EntryView};
 ghost use Rattle.gixobj_tree.specs.WellFormed.{IsEntryName};
 ghost use Rattle.gixobj_tree_entries.specs.Mode.{is_tree_mode};
 ghost use Rattle.gixobj_editor_lookups.specs.EditNames.{IsFirstNameError, StartsInvalid, directory_of};
-ghost use Rattle.gixobj_editor_lookups.specs.FailedOpenings.{OpensInPart};
+ghost use Rattle.gixobj_editor_lookups.specs.FailedOpenings.{HasCounted, OpensInPart};
 ghost use Rattle.gixobj_editor_lookups.specs.RemovalErrors.{ValidatesUpTo, IsLeafDirectoryError, IsRemovalErrorUpTo};
 
 use crate::error::Error;
@@ -56,6 +56,9 @@ pub fn open_for_removal<S: Find>(
         (names_of path.now) (dirs_of root.old) (dirs_of root.new) lookups.old lookups.new error
         × IsRemovalErrorUpTo (EndsBefore not_looked_up) (S.objects store.now)
         (S.may_fail store.now) trees (dirs_of root.old) (names_of path.now) error)) }
+    ensures lookups { IfErr result (λ error. OfTrees (S.objects store.now) (λ trees.
+        HasCounted (EndsBefore not_looked_up) trees (names_of path.now) (dirs_of root.old)
+        (dirs_of root.new) lookups.old lookups.new error)) }
     ensures unchanged { StartsInvalid (names_of path.now)
         → (dirs_of root.new ≡ dirs_of root.old) × (lookups.new ≡ lookups.old) }
     ensures still_opened { IsOpened (dirs_of root.old) → IsOpened (dirs_of root.new) }

@@ -9,9 +9,9 @@ ghost use Rattle.gixobj_editor_lookups.specs.EditNames.{from_root, StartsInvalid
 ghost use Rattle.gixobj_editor.specs.Cursors.{IsEnsured, IsFailedCursorIn, IsWrittenBelow, IsErrorBelow, IsCursorError, cursor_path};
 ghost use Rattle.gixobj_editor.specs.Removals.{IsLeafRemoved, IsRemoved, IsLeafRemovalError, IsRemovalError};
 ghost use Rattle.gixobj_editor.specs.Upserts.{IsNameError, IsUpserted, IsErrorIn, IsUpsertError};
-ghost use Rattle.gixobj_editor.specs.FailedEdits.{IsFailedEditIn};
+ghost use Rattle.gixobj_editor.specs.FailedEdits.{HasCountedIn, IsFailedEditIn};
 ghost use Rattle.gixobj_editor.specs.contracts.editor.Editor.{the_row};
-ghost use Rattle.gixobj_editor_files.specs.Edits.{entry_at};
+ghost use Rattle.gixobj_editor_files.specs.Edits.{IsNoTree, entry_at};
 ghost use Rattle.gixobj_editor_files.specs.Files.{Path};
 ghost use Rattle.gixobj_editor_files.specs.Emission.{EmitsSome};
 ghost use Rattle.gixobj_editor_files.specs.Bases.{opened_bases};
@@ -91,15 +91,13 @@ impl<S: Find> Editor<S> {
     ///
     /// A directory with the null id or the empty tree's id is opened as empty, without a lookup.
     ///
-    /// Allocates for each directory that isn't open, twice for one that is looked up, and for a copy of the
-    /// names.
+    /// Allocates for each directory that isn't open, twice for one that is looked up, and a copy of the names.
     ///
     /// # Errors
     ///
     /// - [`Error::EmptyPathComponent`] if the first invalid name is empty, before any lookup;
     /// - [`Error::SlashInPathComponent`] if the first invalid name contains a `/`, before any lookup;
-    /// - [`Error::FindExistingObject`] with the lookup's error, for the first directory that isn't found as a
-    ///   tree;
+    /// - [`Error::FindExistingObject`] with the lookup's error, for the first directory not found as a tree;
     /// - [`Error::MalformedTree`] for the first directory whose tree isn't well-formed;
     /// - [`Error::OutOfMemory`] if allocation fails, only for a path other than the root's.
     ///
@@ -147,6 +145,8 @@ impl<S: Find> Editor<S> {
             self.old (with_empty_name (cursor_path (names_of path.now))) self.new) }
         ensures error { IfErr result (IsErrorIn (store_model S.objects S.may_fail) self.old
             IsCursorError (cursor_path (names_of path.now))) }
+        ensures lookups { IfErr result (HasCountedIn S.objects IsNoTree self.old
+            (with_empty_name (cursor_path (names_of path.now))) self.new) }
         ensures unchanged { IfErr result (λ error. IsNameError error → self.new ≡ self.old) }
     {
         self.ensure_directory(cursor_path_of(path))
@@ -162,6 +162,8 @@ impl<S: Find> Editor<S> {
             self.old (with_empty_name (names_of path.now)) self.new) }
         ensures error { IfErr result (IsErrorIn (store_model S.objects S.may_fail) self.old
             IsCursorError (names_of path.now)) }
+        ensures lookups { IfErr result (HasCountedIn S.objects IsNoTree self.old
+            (with_empty_name (names_of path.now)) self.new) }
         ensures unchanged { IfErr result (λ error. IsNameError error → self.new ≡ self.old) }
     {
         let alloc = *self.prefix.allocator();
@@ -378,9 +380,8 @@ impl<S: Find> Cursor<'_, S> {
     ///
     /// # Errors
     ///
-    /// Those of [`Editor::try_remove_leaf`], with the same effect on the editor. [`Error::OutOfMemory`] also
-    /// if the allocation of the path from the root fails. [`Error::CannotRemoveNonLeaf`] has the path from
-    /// the root.
+    /// Those of [`Editor::try_remove_leaf`], with the same effect on the editor. [`Error::OutOfMemory`] also if the
+    /// allocation of the path from the root fails. [`Error::CannotRemoveNonLeaf`] has the path from the root.
     pub fn try_remove_leaf(&mut self, path: &[BString]) -> Result<(), Error>
         ensures same_reference { self.new.editor.ghost_name ≡ self.old.editor.ghost_name }
         ensures prefix { self.new.editor.now.prefix ≡ self.old.editor.now.prefix }
@@ -433,8 +434,7 @@ impl<S> Cursor<'_, S> {
     /// Emits the changed open directories below the prefix to `out`, and last the directory at the prefix,
     /// like gix-object's `Cursor::write`.
     ///
-    /// It is [`Cursor::try_write`] with an owned closure, which must be callable as is said there. It allocates
-    /// what that call allocates.
+    /// It is [`Cursor::try_write`] with an owned closure, callable as is said there, and allocates the same.
     ///
     /// # Errors
     ///

@@ -5,7 +5,8 @@ use Rattle.gixobj_editor_lookups.specs.Openings.{OfTrees}
 use Rattle.gixobj_editor.specs.Causes.{HasCausesAt}
 use Rattle.gixobj_editor.specs.Cursors.{cursor_path}
 use Rattle.gixobj_editor.specs.Upserts.{IsNameError}
-use Rattle.gixobj_editor.specs.FailedEdits.{IsAfterFailedEdit}
+use Rattle.gixobj_editor.specs.FailedEdits.{HasCountedIn, IsAfterFailedEdit}
+use Rattle.gixobj_editor_files.specs.Edits.{IsNoTree}
 use Rattle.gixobj_editor_files.specs.State.{State}
 use Rattle.gixobj_editor_files.specs.Unopened.{with_empty_name}
 use Rattle.gixobj_hash.specs.declared.hash.object_id.ObjectId.{ObjectId}
@@ -41,5 +42,7 @@ returns-in-Err g c =
     let rejected : OfTrees (g.S.Store.objects c.args.editor.now.store)
     (λ trees. IsAfterFailedEdit (record { objects = g.S.Store.objects; may_fail = g.S.Store.may_fail }) trees c.args.editor.now
     (with_empty_name (cursor_path (names_of c.args.prefix.now))) c.in-Err.error pending)
-    × (IsNameError c.in-Err.error → pending ≡ c.args.editor.now) = search rules in
+    × (IsNameError c.in-Err.error → pending ≡ c.args.editor.now)
+    × HasCountedIn g.S.Store.objects IsNoTree c.args.editor.now (with_empty_name (cursor_path (names_of c.args.prefix.now))) pending c.in-Err.error =
+    search rules in
     record { reply = inr (record { effect = rejected.0; cause = (c.in-Err.ensures {u = tt}).error }, rejected.1); causes = tt }

@@ -1,6 +1,6 @@
 -- One level of an opening: into an open directory, to its end, or into a directory that is looked up. They are the
 -- goals of `open_recursively`.
-use Rattle.std.proofs.Common.{◌≡◌, ◌∙◌, ◌++◌, [], ◌∷◌, List, Some, None, refl, sym, ap, subst}
+use Rattle.std.proofs.Common.{◌≡◌, ◌∙◌, ◌++◌, [], ◌∷◌, List, Some, None, inl, inr, refl, sym, ap, subst}
 use Rattle.std.proofs.lemmas.Result.{MatchResult-weaker}
 use Rattle.bstr.specs.Owned.{bstring_bytes}
 use Rattle.gixobj_hash.specs.declared.hash.object_id.ObjectId.{ObjectId}
@@ -87,40 +87,64 @@ returns-in_default-next_id-clause-opened g t c = λ trees fits. (
 )
 
 pub returns-in_err-own_name-clause-stopped_opening : goal.returns-in_err-own_name-clause-stopped_opening
-returns-in_err-own_name-clause-stopped_opening g t c = if_err_weaken c.from_residual.result _ _ c.from_residual.ensures.1 (λ error is trees fits.
-    let StopsBefore = EndsBefore c.args.not_looked_up in
-    let name = bstring_bytes c.in-Some.name.now in
-    let cs = child_list c.node.inside.children in
-    let there = (c.in-Some-next_id.ensures {u = tt}).found in (
-      [],
-      None,
-      stops_opening_here StopsBefore trees (names_of c.args.path.now) name (names_of c.in-Some.rest.now) c.node.inside.entries c.args.node.now cs
-          (child_list c.room_for.new.self)
-          (ap names_of c.in-Some.ensures.cases.0) c.node.view_is c.room_for.ensures.list [] None
-          (stops_opening_for_memory StopsBefore trees name (names_of c.in-Some.rest.now) c.node.inside.entries cs c.node.invariant.level
-          (in_part_none name cs (c.in_default-position.ensures {u = tt}).none) there.0 there.1 there.2 there.3),
-      refl,
-      is,
-    ))
-
-pub returns-in_err-tree-clause-stopped_opening : goal.returns-in_err-tree-clause-stopped_opening
-returns-in_err-tree-clause-stopped_opening g t c = if_err_weaken c.from_residual-in_err-tree.result _ _ c.from_residual-in_err-tree.ensures.1
+returns-in_err-own_name-clause-stopped_opening g t c = if_err_weaken c.from_residual-in_err-own_name.result _ _ c.from_residual-in_err-own_name.ensures.1
     (λ error is trees fits.
     let StopsBefore = EndsBefore c.args.not_looked_up in
     let name = bstring_bytes c.in-Some.name.now in
+    let rest = names_of c.in-Some.rest.now in
+    let es = c.node.inside.entries in
+    let cs = child_list c.node.inside.children in
+    let new = child_list c.room_for.new.self in
+    let path_is = ap names_of c.in-Some.ensures.cases.0 in
+    let none = in_part_none name cs (c.in_default-position.ensures {u = tt}).none in
+    let there = (c.in-Some-next_id.ensures {u = tt}).found in
+    let finds = (c.in_ok-tree.ensures {u = tt}).found trees fits in
+    elim finds.1.1 [
+      | inl empty ↦ (
+        [],
+        None,
+        stops_opening_here StopsBefore trees (names_of c.args.path.now) name rest es c.args.node.now cs new path_is c.node.view_is c.room_for.ensures.list
+            [] None
+            (stops_opening_for_memory StopsBefore trees name rest es cs c.node.invariant.level none there.0 there.1 there.2 there.3
+            (subst IsNeverLookedUp (sym there.4) empty.0)),
+        finds.2 ∙ ap (counted c.args.lookups.now) empty.2,
+        is,
+      )
+      | inr filled ↦ (
+        c.in-Some-next_id.id ∷ [],
+        Some c.in-Some-next_id.id,
+        subst (λ (id : ObjectId). StopsOpening StopsBefore trees (names_of c.args.path.now) (dirs_of c.args.node.now)
+            (dirs_of (opened es c.node.inside.base (parts new))) (id ∷ []) (Some id)) there.4
+            (stops_opening_here StopsBefore trees (names_of c.args.path.now) name rest es c.args.node.now cs new path_is c.node.view_is
+            c.room_for.ensures.list (there.0.id ∷ []) (Some there.0.id)
+            (stops_opening_not_found StopsBefore trees name rest es cs c.node.invariant.level none there.0 there.1 there.2 there.3
+            (subst (λ (id : ObjectId). IsNeverLookedUp id → ⊥) (sym there.4) filled.0))),
+        finds.2 ∙ ap (counted c.args.lookups.now) filled.2,
+        subst (IsDirectoryError (g.S.Store.objects c.args.store.now) (g.S.Store.may_fail c.args.store.now) c.in-Some-next_id.id) (sym is) tt,
+      )
+    ])
+
+pub returns-in_err-tree-clause-stopped_opening : goal.returns-in_err-tree-clause-stopped_opening
+returns-in_err-tree-clause-stopped_opening g t c = if_err_weaken c.from_residual.result _ _ c.from_residual.ensures.1
+    (λ error is trees fits.
+    let StopsBefore = EndsBefore c.args.not_looked_up in
+    let path = names_of c.args.path.now in
+    let old = dirs_of c.args.node.now in
+    let name = bstring_bytes c.in-Some.name.now in
+    let rest = names_of c.in-Some.rest.now in
+    let es = c.node.inside.entries in
     let cs = child_list c.node.inside.children in
     let there = (c.in-Some-next_id.ensures {u = tt}).found in
     let queries = (c.in_err-tree.ensures {u = tt}).lookups in (
       c.in-Some-next_id.id ∷ [],
       Some c.in-Some-next_id.id,
-      subst (λ (id : ObjectId). StopsOpening StopsBefore trees (names_of c.args.path.now) (dirs_of c.args.node.now)
-          (dirs_of (opened c.node.inside.entries c.node.inside.base (parts (child_list c.room_for.new.self)))) (id ∷ []) (Some id)) there.4
-          (stops_opening_here StopsBefore trees (names_of c.args.path.now) name (names_of c.in-Some.rest.now) c.node.inside.entries c.args.node.now cs
-          (child_list c.room_for.new.self) (ap names_of c.in-Some.ensures.cases.0) c.node.view_is c.room_for.ensures.list (there.0.id ∷ [])
-          (Some there.0.id)
-          (stops_opening_not_found StopsBefore trees name (names_of c.in-Some.rest.now) c.node.inside.entries cs c.node.invariant.level
+      subst (λ (id : ObjectId). StopsOpening StopsBefore trees path old old (id ∷ []) (Some id)) there.4
+          (subst (λ (d : Opened). StopsOpening StopsBefore trees path old (dirs_of d) (there.0.id ∷ []) (Some there.0.id)) c.node.view_is
+          (stops_opening_here StopsBefore trees path name rest es c.args.node.now cs cs (ap names_of c.in-Some.ensures.cases.0) c.node.view_is refl
+          (there.0.id ∷ []) (Some there.0.id)
+          (stops_opening_not_found StopsBefore trees name rest es cs c.node.invariant.level
           (in_part_none name cs (c.in_default-position.ensures {u = tt}).none) there.0 there.1 there.2 there.3
-          (subst (λ (id : ObjectId). IsNeverLookedUp id → ⊥) (sym there.4) queries.0))),
+          (subst (λ (id : ObjectId). IsNeverLookedUp id → ⊥) (sym there.4) queries.0)))),
       queries.1,
       subst (IsDirectoryError (g.S.Store.objects c.args.store.now) (g.S.Store.may_fail c.args.store.now) c.in-Some-next_id.id) (sym is)
           (c.in_err-tree.ensures {u = tt}).error,
@@ -213,9 +237,7 @@ returns-in_err-own_name-clause-still_opened g t c =
     c.node.view_is c.room_for.ensures.list
 
 pub returns-in_err-tree-clause-still_opened : goal.returns-in_err-tree-clause-still_opened
-returns-in_err-tree-clause-still_opened g t c =
-    is_opened_after_opening c.node.inside.entries c.args.node.now (child_list c.node.inside.children) (child_list c.room_for.new.self)
-    c.node.view_is c.room_for.ensures.list
+returns-in_err-tree-clause-still_opened g t c = λ all. all
 
 pub returns-clause-still_opened : goal.returns-clause-still_opened
 returns-clause-still_opened g t c =
@@ -271,9 +293,7 @@ returns-in_err-own_name-clause-bases g t c =
     (ap (λ (l : List Child). opened c.node.inside.entries c.node.inside.base (parts l)) c.room_for.ensures.list ∙ c.node.view_is)
 
 pub returns-in_err-tree-clause-bases : goal.returns-in_err-tree-clause-bases
-returns-in_err-tree-clause-bases g t c =
-    base_of_unmoved base_opened opening c.args.node.now (opened c.node.inside.entries c.node.inside.base (parts (child_list c.room_for.new.self)))
-    (ap (λ (l : List Child). opened c.node.inside.entries c.node.inside.base (parts l)) c.room_for.ensures.list ∙ c.node.view_is)
+returns-in_err-tree-clause-bases g t c = λ at. unmoved base_opened opening c.args.node.now at
 
 pub returns-in-Some-position-clause-bases : goal.returns-in-Some-position-clause-bases
 returns-in-Some-position-clause-bases g t c =
@@ -321,9 +341,7 @@ returns-in_err-own_name-clause-kept g t c =
     c.node.view_is c.room_for.ensures.list
 
 pub returns-in_err-tree-clause-kept : goal.returns-in_err-tree-clause-kept
-returns-in_err-tree-clause-kept g t c =
-    keeps_open_of_same c.node.inside.entries c.args.node.now (child_list c.node.inside.children) (child_list c.room_for.new.self)
-    c.node.view_is c.room_for.ensures.list
+returns-in_err-tree-clause-kept g t c = λ at entries is. is
 
 pub returns-clause-kept : goal.returns-clause-kept
 returns-clause-kept g t c =

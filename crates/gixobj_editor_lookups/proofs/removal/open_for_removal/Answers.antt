@@ -8,7 +8,8 @@ use Rattle.gixobj_editor_open.proofs.Results.{if_err_weaken}
 use Rattle.gixobj_editor_lookups.proofs.NamedTrees.{trees_of_objects_exist}
 use Rattle.gixobj_editor_files.specs.Edits.{counted}
 use Rattle.gixobj_editor_lookups.proofs.OpeningSteps.{ends_before_is_idle}
-use Rattle.gixobj_editor_lookups.proofs.Removing.{IsRejectedSo, halted_removal, name_rejected_so, is_opened_for_of_opens, no_halt, nothing_validated, opens_nothing}
+use Rattle.gixobj_editor_lookups.proofs.Removing.{IsRejectedSo, halted_removal, halted_removal_counts, name_rejected_so, is_opened_for_of_opens, no_halt, nothing_validated, opens_nothing}
+use Rattle.gixobj_editor_lookups.proofs.ValidNames.{no_memory_of_name}
 use Rattle.gixobj_editor_lookups.proofs.removal.open_for_removal.Goals as goal
 
 pub returns-in_err-open_along-clause-after_error : goal.returns-in_err-open_along-clause-after_error
@@ -57,3 +58,15 @@ returns-clause-unchanged g c = λ bad.
     let none = nothing_validated (names_of c.args.path.now) names (names_of c.split_for_removal.result.1.now) c.split_for_removal.ensures bad in
     let same = opens_nothing named.0 names none (dirs_of c.args.root.now) (dirs_of c.open_along.new.node) ok.0 ok.1 in
     (same.0, ok.2 ∙ ap (counted c.args.lookups.now) same.1)
+
+-- each lookup is counted
+pub returns-in_err-open_along-clause-lookups : goal.returns-in_err-open_along-clause-lookups
+returns-in_err-open_along-clause-lookups g c = if_err_weaken c.from_residual.result _ _ c.from_residual.ensures.1 (λ error is trees fits memory.
+    let bad = (c.in_err-open_along.ensures {u = tt}).stopped_opening trees fits in
+    halted_removal_counts trees (names_of c.args.path.now) (names_of c.split_for_removal.result.0.now)
+    (names_of c.split_for_removal.result.1.now) c.split_for_removal.ensures
+    (dirs_of c.args.root.now) (dirs_of c.open_along.new.node) bad.0 bad.1 bad.2 c.args.lookups.now c.open_along.new.lookups bad.3)
+
+pub returns-clause-lookups : goal.returns-clause-lookups
+returns-clause-lookups g c = MatchResult-weaker c.check_reached.result c.check_reached.ensures.error (λ _ u. u) (λ error bad trees fits memory.
+    absurd (no_memory_of_name (names_of c.split_for_removal.result.1.now) error bad.2 memory))

@@ -17,11 +17,12 @@ use Rattle.gixobj_editor.specs.FailedEdits.{IsAfterFailedEdit}
 use Rattle.gixobj_editor_lookups.specs.declared.error.Error.{Error}
 use Rattle.gixobj_editor.specs.Cursors.{IsCursorError}
 use Rattle.gixobj_editor.proofs.EnsuredAt.{ensured_at, ensured_path_is_open, cursor_error_of_name, rejects_at, path_not_nil}
-use Rattle.gixobj_editor_lookups.proofs.ValidNames.{no_lookup_of_name}
-use Rattle.gixobj_editor.proofs.Edited.{OpenedOn, OpenedSo, halted_so, opened_so, unchanged_at, state_of}
+use Rattle.gixobj_editor_lookups.proofs.ValidNames.{no_lookup_of_name, no_memory_of_name}
+use Rattle.gixobj_editor.proofs.Edited.{OpenedOn, OpenedSo, counted_at, halted_so, opened_so, unchanged_at, state_of}
 use Rattle.gixobj_editor_lookups.proofs.NamedTrees.{trees_of_objects_exist}
 use Rattle.gixobj_editor_lookups.specs.declared.opening.NotLookedUp.TheVariants as not_looked_up
 use Rattle.gixobj_editor.proofs.OpenedOn.{ensured_on, halted_on, opened_on}
+use Rattle.gixobj_editor_lookups.proofs.InPart.{halted_counts, opened_counts}
 use Rattle.gixobj_editor.proofs.editor.Editor.ensure_directory.Goals as goal
 
 pub returns-in_err-validate_names-clause-error : goal.returns-in_err-validate_names-clause-error
@@ -168,3 +169,46 @@ returns-clause-ensured g c = λ trees fits.
     c.null-null.ensures.value)
     ok.2 c.self.invariant
     c.open_along.ensures.bases (c.in_ok-ensure_directory.ensures {u = tt}).bases (names_of c.in_ok-prefix.prefix.items) (c.in_ok-prefix.ensures {u = tt}).names
+
+-- each lookup is counted
+pub returns-in_err-validate_names-clause-lookups : goal.returns-in_err-validate_names-clause-lookups
+returns-in_err-validate_names-clause-lookups g c = if_err_weaken c.from_residual.result _ _ c.from_residual.ensures.1 (λ error is trees fits memory.
+    let path = names_of c.args.path.now in
+    absurd (no_memory_of_name path error (subst (IsFirstNameError path) (sym is) (c.in_err-validate_names.ensures {u = tt}).error) memory))
+
+pub returns-in_err-open_along-clause-lookups : goal.returns-in_err-open_along-clause-lookups
+returns-in_err-open_along-clause-lookups g c =
+    if_err_weaken c.from_residual-in_err-open_along.result _ _ c.from_residual-in_err-open_along.ensures.1 (λ error gives trees fits memory.
+    let s = c.self.inside in
+    let path = names_of c.args.path.now in
+    let stored = ap (λ (o : State _). o.store) c.self.view_is in
+    let bad = (c.in_err-open_along.ensures {u = tt}).stopped_opening trees (subst (λ o. AreTreesOf (g.S.Store.objects o) trees) (sym stored) fits) in
+    counted_at s.store s.object_hash (names_of s.prefix.items) trees s.root c.open_along.new.node s.lookups c.open_along.new.lookups c.args.self.now
+    c.self.view_is (with_empty_name path)
+    (halted_counts trees (with_empty_name path) path [] [] refl (dirs_of s.root) (dirs_of c.open_along.new.node) bad.0 bad.1 bad.2 s.lookups
+    c.open_along.new.lookups bad.3))
+
+pub returns-in_err-prefix-clause-lookups : goal.returns-in_err-prefix-clause-lookups
+returns-in_err-prefix-clause-lookups g c =
+    if_err_weaken c.from_residual-in_err-prefix.result _ _ c.from_residual-in_err-prefix.ensures.1 (λ error gives trees fits memory.
+    let s = c.self.inside in
+    let path = names_of c.args.path.now in
+    let stored = ap (λ (o : State _). o.store) c.self.view_is in
+    let ok = (c.in_ok-open_along.ensures {u = tt}).opened trees (subst (λ o. AreTreesOf (g.S.Store.objects o) trees) (sym stored) fits) in
+    counted_at s.store s.object_hash (names_of s.prefix.items) trees s.root c.open_along.new.node s.lookups c.open_along.new.lookups c.args.self.now
+    c.self.view_is (with_empty_name path)
+    (opened_counts trees (with_empty_name path) path [] refl (dirs_of s.root) (dirs_of c.open_along.new.node) ok.0 ok.1 s.lookups
+    c.open_along.new.lookups ok.2))
+
+pub returns-in_err-ensure_directory-clause-lookups : goal.returns-in_err-ensure_directory-clause-lookups
+returns-in_err-ensure_directory-clause-lookups g c =
+    if_err_weaken c.from_residual-in_err-ensure_directory.result _ _ c.from_residual-in_err-ensure_directory.ensures.1 (λ error gives trees fits memory.
+    let s = c.self.inside in
+    let path = names_of c.args.path.now in
+    let stored = ap (λ (o : State _). o.store) c.self.view_is in
+    let ok = (c.in_ok-open_along.ensures {u = tt}).opened trees (subst (λ o. AreTreesOf (g.S.Store.objects o) trees) (sym stored) fits) in
+    let same : c.ensure_directory.new.self ≡ c.open_along.new.node = (c.in_err-ensure_directory.ensures {u = tt}).unchanged in
+    counted_at s.store s.object_hash (names_of s.prefix.items) trees s.root c.ensure_directory.new.self s.lookups c.open_along.new.lookups c.args.self.now
+    c.self.view_is (with_empty_name path)
+    (opened_counts trees (with_empty_name path) path [] refl (dirs_of s.root) (dirs_of c.ensure_directory.new.self) ok.0
+    (subst (λ (ds : Opened). Opens IsNoTree trees path (dirs_of s.root) (dirs_of ds) ok.0) (sym same) ok.1) s.lookups c.open_along.new.lookups ok.2))

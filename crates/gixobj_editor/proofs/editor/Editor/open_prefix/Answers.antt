@@ -2,11 +2,12 @@
 use Rattle.std.proofs.Common.{◌≡◌, subst}
 use Rattle.std.specs.Prelude.{IfErr, OnOk}
 use Rattle.gixobj_editor_files.specs.Files.{Path, Trees}
+use Rattle.gixobj_editor_files.specs.Edits.{IsNoTree}
 use Rattle.gixobj_editor_files.specs.State.{open_dirs}
 use Rattle.gixobj_editor_files.specs.Unopened.{with_empty_name}
 use Rattle.gixobj_editor_lookups.specs.Openings.{AreTreesOf}
 use Rattle.gixobj_editor.specs.Cursors.{IsEnsured, IsCursorError}
-use Rattle.gixobj_editor.specs.FailedEdits.{IsAfterFailedEdit}
+use Rattle.gixobj_editor.specs.FailedEdits.{HasCountedIn, IsAfterFailedEdit}
 use Rattle.gixobj_editor.proofs.editor.Editor.open_prefix.Goals as goal
 
 pub returns-clause-prefix : goal.returns-clause-prefix
@@ -31,3 +32,8 @@ returns-clause-error g c =
     (λ (p : Path). IfErr c.ensure_directory.result (λ error. (trees : Trees) → AreTreesOf (g.S.Store.objects c.args.self.now.store) trees
     → IsCursorError (g.S.Store.objects c.args.self.now.store) (g.S.Store.may_fail c.args.self.now.store) trees (open_dirs c.args.self.now) p error))
     c.cursor_path_of.ensures c.ensure_directory.ensures.error
+
+pub returns-clause-lookups : goal.returns-clause-lookups
+returns-clause-lookups g c =
+    subst (λ (p : Path). IfErr c.ensure_directory.result (HasCountedIn g.S.Store.objects IsNoTree c.args.self.now (with_empty_name p)
+    c.ensure_directory.new.self)) c.cursor_path_of.ensures c.ensure_directory.ensures.lookups

@@ -1,5 +1,5 @@
 -- The directories above the path are opened as far as they exist, and then the entry is removed.
-use Rattle.std.proofs.Common.{sym, ap, subst}
+use Rattle.std.proofs.Common.{◌∙◌, sym, ap, subst}
 use Rattle.gixobj_editor_files.specs.Opening.{Dirs}
 use Rattle.gixobj_editor_files.specs.State.{State, open_dirs}
 use Rattle.gixobj_editor_open.specs.Paths.{names_of}
@@ -8,7 +8,7 @@ use Rattle.gixobj_editor_open.proofs.Results.{if_err_weaken}
 use Rattle.gixobj_editor_lookups.proofs.NamedTrees.{trees_of_objects_exist}
 use Rattle.gixobj_editor_files.proofs.WrittenTrees.{on_err_of}
 use Rattle.gixobj_editor.specs.Removals.{IsRemovalError}
-use Rattle.gixobj_editor.proofs.Edited.{map_dirs_eq, same_state, stay_at, state_of}
+use Rattle.gixobj_editor.proofs.Edited.{counted_at, map_dirs_eq, same_state, stay_at, state_of}
 use Rattle.gixobj_editor_lookups.specs.declared.opening.NotLookedUp.TheVariants as not_looked_up
 use Rattle.gixobj_editor.proofs.RemovedAt.{removed_at}
 use Rattle.gixobj_editor.proofs.OpenedOn.{in_part_on, taken_on}
@@ -78,3 +78,13 @@ returns-in_err-open_for_removal-clause-unchanged g c =
     let same = c.open_for_removal.ensures.unchanged bad in
     same_state s.store s.object_hash (names_of s.prefix.items) s.root c.open_for_removal.new.root s.lookups c.open_for_removal.new.lookups c.args.self.now
     c.self.view_is same.0 c.open_for_removal.ensures.bases same.1)
+
+-- each lookup is counted
+pub returns-in_err-open_for_removal-clause-lookups : goal.returns-in_err-open_for_removal-clause-lookups
+returns-in_err-open_for_removal-clause-lookups g c =
+    if_err_weaken c.from_residual.result _ _ c.from_residual.ensures.1 (λ error is trees fits memory.
+    let s = c.self.inside in
+    let stored = ap (λ (o : State _). o.store) c.self.view_is in
+    let bad = (c.in_err-open_for_removal.ensures {u = tt}).lookups trees (subst (λ o. AreTreesOf (g.S.Store.objects o) trees) (sym stored) fits) in
+    counted_at s.store s.object_hash (names_of s.prefix.items) trees s.root c.open_for_removal.new.root s.lookups c.open_for_removal.new.lookups
+    c.args.self.now c.self.view_is (names_of c.args.path.now) (bad (sym is ∙ memory)))

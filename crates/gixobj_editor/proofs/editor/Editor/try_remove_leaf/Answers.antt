@@ -10,7 +10,7 @@ use Rattle.gixobj_editor_lookups.proofs.NamedTrees.{trees_of_objects_exist}
 use Rattle.gixobj_editor_files.proofs.WrittenTrees.{on_err_of}
 use Rattle.gixobj_editor_lookups.specs.RemovalErrors.{IsLeafDirectoryError}
 use Rattle.gixobj_editor.specs.Removals.{IsLeafRemovalError}
-use Rattle.gixobj_editor.proofs.Edited.{map_dirs_eq, same_state, stay_at, state_of}
+use Rattle.gixobj_editor.proofs.Edited.{counted_at, map_dirs_eq, same_state, stay_at, state_of}
 use Rattle.gixobj_editor_lookups.specs.declared.opening.NotLookedUp.TheVariants as not_looked_up
 use Rattle.gixobj_editor.proofs.RemovedAt.{no_lookup_of_leaf, rejected_at, removed_at, known_at}
 use Rattle.gixobj_editor.proofs.OpenedOn.{in_part_on, opened_on, taken_on}
@@ -19,6 +19,8 @@ use Rattle.gixobj_editor_lookups.specs.EditNames.{directory_of}
 use Rattle.gixobj_editor_lookups.specs.FailedOpenings.{IsLookupError}
 use Rattle.gixobj_editor.specs.FailedEdits.{IsAfterFailedEdit}
 use Rattle.gixobj_editor_lookups.specs.declared.error.Error.{Error}
+use Rattle.gixobj_editor_lookups.proofs.Removing.{opened_above_counts}
+use Rattle.gixobj_editor_open.specs.Nested.{dirs_of}
 use Rattle.gixobj_editor.proofs.editor.Editor.try_remove_leaf.Goals as goal
 
 pub returns-in_err-open_for_removal-clause-after_error : goal.returns-in_err-open_for_removal-clause-after_error
@@ -129,3 +131,24 @@ returns-in_err-check_leaf-clause-unchanged g c =
     let same = c.open_for_removal.ensures.unchanged bad in
     same_state s.store s.object_hash (names_of s.prefix.items) s.root c.open_for_removal.new.root s.lookups c.open_for_removal.new.lookups c.args.self.now
     c.self.view_is same.0 c.open_for_removal.ensures.bases same.1)
+
+-- each lookup is counted
+pub returns-in_err-open_for_removal-clause-lookups : goal.returns-in_err-open_for_removal-clause-lookups
+returns-in_err-open_for_removal-clause-lookups g c =
+    if_err_weaken c.from_residual.result _ _ c.from_residual.ensures.1 (λ error is trees fits memory.
+    let s = c.self.inside in
+    let stored = ap (λ (o : State _). o.store) c.self.view_is in
+    let bad = (c.in_err-open_for_removal.ensures {u = tt}).lookups trees (subst (λ o. AreTreesOf (g.S.Store.objects o) trees) (sym stored) fits) in
+    counted_at s.store s.object_hash (names_of s.prefix.items) trees s.root c.open_for_removal.new.root s.lookups c.open_for_removal.new.lookups
+    c.args.self.now c.self.view_is (names_of c.args.path.now) (bad (sym is ∙ memory)))
+
+pub returns-in_err-check_leaf-clause-lookups : goal.returns-in_err-check_leaf-clause-lookups
+returns-in_err-check_leaf-clause-lookups g c =
+    if_err_weaken c.from_residual-in_err-check_leaf.result _ _ c.from_residual-in_err-check_leaf.ensures.1 (λ error is trees fits memory.
+    let s = c.self.inside in
+    let path = names_of c.args.path.now in
+    let stored = ap (λ (o : State _). o.store) c.self.view_is in
+    let ok = (c.in_ok-open_for_removal.ensures {u = tt}).opened trees (subst (λ o. AreTreesOf (g.S.Store.objects o) trees) (sym stored) fits) in
+    counted_at s.store s.object_hash (names_of s.prefix.items) trees s.root c.open_for_removal.new.root s.lookups c.open_for_removal.new.lookups
+    c.args.self.now c.self.view_is path
+    (opened_above_counts trees path (dirs_of s.root) (dirs_of c.open_for_removal.new.root) ok.0 ok.1 s.lookups c.open_for_removal.new.lookups ok.2))

@@ -1,5 +1,5 @@
 -- The directories above the path are opened, and then the entry is inserted: the clauses of `try_upsert`.
-use Rattle.std.proofs.Common.{◌≡◌, ◌∙◌, sym, ap, subst}
+use Rattle.std.proofs.Common.{◌≡◌, ◌∙◌, [], sym, ap, subst}
 use Rattle.std.proofs.lemmas.List.Elements.{recursion_from_All}
 use Rattle.bstr.specs.Owned.{bstring_bytes}
 use Rattle.gixobj_tree.specs.WellFormed.{IsEntryName}
@@ -17,12 +17,13 @@ use Rattle.gixobj_editor.specs.Upserts.{IsUpsertError}
 use Rattle.gixobj_editor_lookups.specs.FailedOpenings.{IsLookupError}
 use Rattle.gixobj_editor.specs.FailedEdits.{IsAfterFailedEdit}
 use Rattle.gixobj_editor_lookups.specs.declared.error.Error.{Error}
-use Rattle.gixobj_editor_lookups.proofs.ValidNames.{no_lookup_of_name}
-use Rattle.gixobj_editor.proofs.Edited.{OpenedOn, OpenedSo, edited_bases_idle, halted_so, upsert_error_of_name, is_upserted_unchanged, is_opened_of_editor, opened_so, fails, unchanged_at, upserted_at, state_of}
+use Rattle.gixobj_editor_lookups.proofs.ValidNames.{no_lookup_of_name, no_memory_of_name}
+use Rattle.gixobj_editor.proofs.Edited.{OpenedOn, OpenedSo, counted_at, edited_bases_idle, halted_so, upsert_error_of_name, is_upserted_unchanged, is_opened_of_editor, opened_so, fails, unchanged_at, upserted_at, state_of}
 use Rattle.gixobj_editor_lookups.specs.declared.opening.NotLookedUp.TheVariants as not_looked_up
 use Rattle.gixobj_editor_lookups.proofs.NamedTrees.{trees_of_objects_exist}
 use Rattle.gixobj_editor_lookups.proofs.Paths.{names_of_snoc}
 use Rattle.gixobj_editor.proofs.OpenedOn.{halted_on, opened_on, inserted_on}
+use Rattle.gixobj_editor_lookups.proofs.InPart.{halted_counts, opened_counts}
 use Rattle.gixobj_editor.proofs.editor.Editor.try_upsert.Goals as goal
 
 pub returns-in_err-validate_names-clause-error : goal.returns-in_err-validate_names-clause-error
@@ -146,3 +147,37 @@ returns-clause-upserted g c = λ trees fits.
     ∙ ap (λ mode. upserted_dirs (names_of c.args.path.now) mode c.args.id c.null-null.result (dirs_of c.open_along.new.node) at) c.into.ensures
     ∙ ap (λ null. upserted_dirs (names_of c.args.path.now) (mode_of_kind c.args.kind) c.args.id null (dirs_of c.open_along.new.node) at)
     c.null-null.ensures.value) ok.2 c.self.invariant c.open_along.ensures.bases (c.in_ok-insert_entry.ensures {u = tt}).bases
+
+-- each lookup is counted
+pub returns-in_err-validate_names-clause-lookups : goal.returns-in_err-validate_names-clause-lookups
+returns-in_err-validate_names-clause-lookups g c = if_err_weaken c.from_residual.result _ _ c.from_residual.ensures.1 (λ error is trees fits memory.
+    let path = names_of c.args.path.now in
+    absurd (no_memory_of_name path error (subst (IsFirstNameError path) (sym is) (c.in_err-validate_names.ensures {u = tt}).error) memory))
+
+pub returns-in_err-open_along-clause-lookups : goal.returns-in_err-open_along-clause-lookups
+returns-in_err-open_along-clause-lookups g c =
+    if_err_weaken c.from_residual-in_err-open_along.result _ _ c.from_residual-in_err-open_along.ensures.1 (λ error gives trees fits memory.
+    let s = c.self.inside in
+    let path = names_of c.args.path.now in
+    let is = names_of_snoc c.args.path.now c.in-Some.directory.now c.in-Some._last.now c.in-Some.ensures.cases.0 in
+    let stored = ap (λ (o : State _). o.store) c.self.view_is in
+    let bad = (c.in_err-open_along.ensures {u = tt}).stopped_opening trees (subst (λ o. AreTreesOf (g.S.Store.objects o) trees) (sym stored) fits) in
+    counted_at s.store s.object_hash (names_of s.prefix.items) trees s.root c.open_along.new.node s.lookups c.open_along.new.lookups c.args.self.now
+    c.self.view_is path
+    (halted_counts trees path (names_of c.in-Some.directory.now) (bstring_bytes c.in-Some._last.now) [] is (dirs_of s.root)
+    (dirs_of c.open_along.new.node) bad.0 bad.1 bad.2 s.lookups c.open_along.new.lookups bad.3))
+
+pub returns-in_err-insert_entry-clause-lookups : goal.returns-in_err-insert_entry-clause-lookups
+returns-in_err-insert_entry-clause-lookups g c =
+    if_err_weaken c.from_residual-in_err-insert_entry.result _ _ c.from_residual-in_err-insert_entry.ensures.1 (λ error gives trees fits memory.
+    let s = c.self.inside in
+    let path = names_of c.args.path.now in
+    let directory = names_of c.in-Some.directory.now in
+    let is = names_of_snoc c.args.path.now c.in-Some.directory.now c.in-Some._last.now c.in-Some.ensures.cases.0 in
+    let stored = ap (λ (o : State _). o.store) c.self.view_is in
+    let ok = (c.in_ok-open_along.ensures {u = tt}).opened trees (subst (λ o. AreTreesOf (g.S.Store.objects o) trees) (sym stored) fits) in
+    let same : c.insert_entry.new.self ≡ c.open_along.new.node = (c.in_err-insert_entry.ensures {u = tt}).unchanged in
+    counted_at s.store s.object_hash (names_of s.prefix.items) trees s.root c.insert_entry.new.self s.lookups c.open_along.new.lookups c.args.self.now
+    c.self.view_is path
+    (opened_counts trees path directory (bstring_bytes c.in-Some._last.now) is (dirs_of s.root) (dirs_of c.insert_entry.new.self) ok.0
+    (subst (λ (ds : Opened). Opens IsNoTree trees directory (dirs_of s.root) (dirs_of ds) ok.0) (sym same) ok.1) s.lookups c.open_along.new.lookups ok.2))
