@@ -28,6 +28,7 @@ pub use Rattle.gixobj_editor.specs.Writes
 pub use Rattle.gixobj_editor.specs.declared as editor
 pub use Rattle.gixobj_editor_commands.specs.declared as commands
 pub use Rattle.gixobj_editor_files.specs.Bases
+pub use Rattle.gixobj_editor_files.specs.BuiltTrees
 pub use Rattle.gixobj_editor_files.specs.Editing
 pub use Rattle.gixobj_editor_files.specs.Edits
 pub use Rattle.gixobj_editor_files.specs.Emission

@@ -25,7 +25,8 @@ pub use gixobj_editor::laws::{
     consistent_run_has_table, encodable_tree_decodes_to_itself, run_table_agrees_with_writes,
 };
 pub use gixobj_editor_files::laws::{
-    consistent_pairs_have_table, list_has_table, plain_history_is_table_independent,
+    built_trees_are_unique, consistent_pairs_have_table, directory_has_files_of_tree,
+    list_has_table, null_id_test_decides, plain_history_is_table_independent,
     single_root_is_opened, store_has_table,
 };
 pub use gixobj_editor_import::laws::consistent_import_has_table;

@@ -10,6 +10,7 @@ use Rattle.gixobj_tree_entries.specs.KeyOrder.{ComesBefore, entry_key}
 use Rattle.gixobj_tree.specs.WellFormed.{EachLater, IsWellFormed}
 use Rattle.gixobj_tree_entries.specs.Mode.{is_tree_mode, tree_type}
 use Rattle.gixobj_hash.specs.declared.hash.object_id.ObjectId.{ObjectId}
+pub use Rattle.gixobj_editor_files.specs.BuiltTrees.{IsBuilt, IsClean, built}
 use Rattle.gixobj_editor_files.specs.Files.{Below, Files, ContainsEntry, Path, SameFiles, Table, is_null}
 use Rattle.gixobj_editor_files.specs.Tables.{AgreesWithPairs, HasOneIdPerTree}
 use Rattle.gixobj_editor_files.proofs.OpenedFiles.{files_below_of_table}
@@ -65,21 +66,6 @@ entry_of_congruent mode other name its_name id its_id m n i = cc (m, n, i)
 
 pub entries_named_alike_eq : (x y : EntryView) → x.mode ≡ y.mode → x.name ≡ y.name → x.id ≡ y.id → x ≡ y
 entries_named_alike_eq x y m n i = entry_of_congruent x.mode y.mode x.name y.name x.id y.id m n i
-
--- a well-formed list without null ids
-pub record IsClean (entries : List EntryView) : Type 0 where
-  pub formed : IsWellFormed entries
-  pub filled : (e : EntryView) → ContainsEntry entries e → is_null e.id ≡ false
-
--- a tree whose directories have the ids of pairs with trees that aren't empty and are built in turn
-pub data IsBuilt (pairs : List Pair) : List EntryView → Type 0 where
-  built : (entries : List EntryView) → IsClean entries
-      → ((e : EntryView) → ContainsEntry entries e → is_tree_mode e.mode ≡ true → e.mode ≡ tree_type)
-      → (tree : (e : EntryView) → ContainsEntry entries e → is_tree_mode e.mode ≡ true → List EntryView)
-      → ((e : EntryView) (h : ContainsEntry entries e) (t : is_tree_mode e.mode ≡ true) → tree e h t ≢ [])
-      → ((e : EntryView) (h : ContainsEntry entries e) (t : is_tree_mode e.mode ≡ true) → Contains pairs (e.id, tree e h t))
-      → ((e : EntryView) (h : ContainsEntry entries e) (t : is_tree_mode e.mode ≡ true) → IsBuilt pairs (tree e h t))
-      → IsBuilt pairs entries
 
 module _ (T : Table) where
   -- an entry that isn't of tree mode is a file, and the only one of its name

@@ -1,4 +1,5 @@
 pub mod Bases
+pub mod BuiltTrees
 pub mod Editing
 pub mod Edits
 pub mod Files

@@ -4,6 +4,7 @@ ghost use Rattle.std.specs.FinMap as map;
 ghost use Rattle.gixobj_tree_entries.specs.Entries.{EntryView, Pair};
 ghost use Rattle.gixobj_tree.specs.WellFormed.{IsWellFormed};
 ghost use Rattle.gixobj_hash.specs.declared.hash.object_id.ObjectId.{ObjectId};
+ghost use Rattle.gixobj_editor_files.specs.BuiltTrees.{BuiltTreesAreUnique, DirectoryHasFilesOfTree, NullIdTestDecides};
 ghost use Rattle.gixobj_editor_files.specs.Files.{Path, Table, Trees};
 ghost use Rattle.gixobj_editor_files.specs.History.{FilesAfter, Step};
 ghost use Rattle.gixobj_editor_files.specs.Opening.{IsOpened};
@@ -46,4 +47,21 @@ pub fn plain_history_is_table_independent()
         → (T : Table) (n : ℕ) (path : Path) (mode : ℕ) (id : ObjectId)
         → FilesAfter T n steps NoFiles path mode id
         ↔ ((length path ≤ n) × PlainFilesAfter steps NoFiles path mode id) }
+{}
+
+/// Trees whose directories have the ids of pairs are equal if their files are.
+///
+/// Each directory's pair has the tree of its id in the table, and no tree of the pairs has two ids.
+pub fn built_trees_are_unique()
+    ensures { BuiltTreesAreUnique }
+{}
+
+/// The files at and below a directory are those of the tree that the table has by its id.
+pub fn directory_has_files_of_tree()
+    ensures { DirectoryHasFilesOfTree }
+{}
+
+/// The test for a null id in the definitions of files agrees with the null id: each of its bytes is zero.
+pub fn null_id_test_decides()
+    ensures { NullIdTestDecides }
 {}

@@ -84,8 +84,9 @@ mod of_kind {
 
 mod of_laws {
     pub use gix_object::laws::{
-        consistent_import_has_table, consistent_pairs_have_table, consistent_run_has_table,
-        encodable_tree_decodes_to_itself, list_has_table, looked_up_file_exists, object_map_insert,
+        built_trees_are_unique, consistent_import_has_table, consistent_pairs_have_table,
+        consistent_run_has_table, directory_has_files_of_tree, encodable_tree_decodes_to_itself,
+        list_has_table, looked_up_file_exists, null_id_test_decides, object_map_insert,
         plain_history_is_table_independent, run_table_agrees_with_writes, single_root_is_opened,
         store_has_table, store_has_tree_map,
     };
