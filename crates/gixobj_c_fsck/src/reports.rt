@@ -12,8 +12,8 @@ use crate::messages::{severity_number, strictness};
 use gixobj_c_codes::codes::{DONE, OUT_OF_MEMORY, UNKNOWN_CODE, hash_of_code, kind_of_code};
 use gixobj_fsck::commit_messages;
 use gixobj_fsck_messages::Messages;
-use gixobj_fsck_tags::{tag_messages, has_extra_header};
-use gixobj_fsck_trees::fsck_tree;
+use gixobj_fsck_tags::{has_extra_header, tag_messages};
+use gixobj_fsck_trees::tree_messages;
 use gixobj_hash::{Kind, hash};
 use std::alloc::{AllocError, Global};
 
@@ -89,7 +89,7 @@ fn report_tree(
     ensures found { IfOk result (IsReport strict hash kind.Tree bytes.now) }
     ensures error { OnErr result (Allocates hash kind.Tree bytes.now) }
 {
-    let messages = fsck_tree(alloc, bytes, hash, strict)?;
+    let messages = tree_messages(alloc, bytes, hash, strict)?;
     Ok(report_messages(messages, strict, !messages.has_error(strict)))
 }
 

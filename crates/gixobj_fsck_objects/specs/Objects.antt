@@ -1,12 +1,18 @@
 -- What git accepts: objects of which no message counts as an error (git-fsck; git-config, `receive.fsckObjects`).
-use Rattle.std.specs.Prelude.{◌+◌, ◌*◌, ◌≤◌, ◌⊎◌, ℕ, Bool, true, IsTrue, List, ⊤, length}
+use Rattle.std.specs.Prelude.{◌≡◌, ℕ, Bool, true, IsTrue, List, [], ⊤}
 use Rattle.gixobj_fsck.specs.Commits.{IsAcceptedCommit}
+use Rattle.gixobj_fsck_findings.specs.CommitChecks.{AreCommitFindings}
+use Rattle.gixobj_fsck_findings.specs.Parser.{IsParsedCommit, IsParsedTag}
+use Rattle.gixobj_fsck_findings.specs.TagChecks.{AreTagFindings}
+use Rattle.gixobj_fsck_messages.specs.Options.{severity_by}
 use Rattle.gixobj_fsck_messages.specs.Severities.{counts_as_error, severity_of}
 use Rattle.gixobj_fsck_messages.specs.declared.message.Message.{Message}
+use Rattle.gixobj_fsck_messages.specs.declared.finding.Finding.{Finding}
+use Rattle.gixobj_fsck_messages.specs.declared.options.Options.{Options}
 use Rattle.gixobj_fsck_tags.specs.Tags.{IsAcceptedTag}
+use Rattle.gixobj_fsck_tree_findings.specs.TreeFindings.{AreTreeFindings}
 use Rattle.gixobj_fsck_trees.specs.RawEntries.{BeginsWithSomeRawEntry, RawEntryView, ReadsTree}
 use Rattle.gixobj_fsck_trees.specs.TreeMessages.{ReportsOfTree}
-use Rattle.gixobj_hash.specs.Hash.{hash_len}
 use Rattle.gixobj_hash.specs.Runs.{Ending}
 use Rattle.gixobj_hash.specs.declared.hash.kind.Kind.{Kind}
 use Rattle.gixobj_hash.specs.declared.kind.Kind as object
@@ -29,17 +35,20 @@ IsAcceptedObject strict object_kind.Blob kind bytes = ⊤
 IsAcceptedObject strict object_kind.Commit kind bytes = IsAcceptedCommit strict kind bytes
 IsAcceptedObject strict object_kind.Tag kind bytes = IsAcceptedTag strict kind bytes
 
--- the tag is as long as git's parser requires: as one without tagger of a blob, with a name of one byte
-abbrev pub IsLongTag : Kind → List ℕ → Type 0
-IsLongTag kind bytes = 2 * hash_len kind + 24 ≤ length bytes
-
--- git takes the object into a repository that has `receive.fsckObjects`: the check is strict, and git's parser takes
--- the object. It takes each accepted tree and commit, and each accepted tag that isn't too short
+-- git takes the object into a repository that has `receive.fsckObjects`: git's parser takes it, and the strict check
+-- accepts it. The parser takes each tree
 abbrev pub IsReceivedObject : object.Kind → Kind → List ℕ → Type 0
 IsReceivedObject object_kind.Tree kind bytes = IsAcceptedTree true kind bytes
 IsReceivedObject object_kind.Blob kind bytes = ⊤
-IsReceivedObject object_kind.Commit kind bytes = IsAcceptedCommit true kind bytes
-IsReceivedObject object_kind.Tag kind bytes = IsLongTag kind bytes × IsAcceptedTag true kind bytes
+IsReceivedObject object_kind.Commit kind bytes = IsParsedCommit kind bytes × IsAcceptedCommit true kind bytes
+IsReceivedObject object_kind.Tag kind bytes = IsParsedTag kind bytes × IsAcceptedTag true kind bytes
+
+-- git's findings about the object, in git's order; there are none about a blob
+abbrev pub AreFindings : Options → object.Kind → Kind → List ℕ → List Finding → Type 0
+AreFindings options object_kind.Tree kind bytes findings = AreTreeFindings kind options bytes findings
+AreFindings options object_kind.Blob kind bytes findings = findings ≡ []
+AreFindings options object_kind.Commit kind bytes findings = AreCommitFindings (severity_by options) kind bytes findings
+AreFindings options object_kind.Tag kind bytes findings = AreTagFindings (severity_by options) kind bytes findings
 
 -- the check of the object may allocate: it is a tree that begins with an entry
 abbrev pub MayAllocate : object.Kind → Kind → List ℕ → Type 0

@@ -1,15 +1,45 @@
 //! The verdict about an object.
 ghost use Rattle.std.specs.Prelude.{◌↔◌, IfOk, IsTrue, OnErr, true};
-ghost use Rattle.gixobj_fsck_objects.specs.Objects.{IsAcceptedObject, IsAcceptedTree, IsLongTag, IsReceivedObject, MayAllocate};
+ghost use Rattle.gixobj_fsck_objects.specs.Objects.{AreFindings, IsAcceptedObject, IsAcceptedTree, IsReceivedObject, MayAllocate};
+ghost use Rattle.gixobj_fsck.specs.Commits.{IsAcceptedCommit};
+ghost use Rattle.gixobj_fsck_findings.specs.Parser.{IsParsedCommit, IsParsedTag};
 ghost use Rattle.gixobj_fsck_tags.specs.Tags.{IsAcceptedTag};
 ghost use Rattle.gixobj_fsck_trees.specs.RawEntries.{BeginsWithSomeRawEntry};
 
 use gixobj_fsck::is_commit_accepted;
+use gixobj_fsck_findings::{fsck_commit, fsck_tag, is_parsed_commit, is_parsed_tag};
+use gixobj_fsck_messages::{Finding, Options};
 use gixobj_fsck_tags::is_tag_accepted;
-use gixobj_fsck_trees::fsck_tree;
+use gixobj_fsck_tree_findings::fsck_tree;
+use gixobj_fsck_trees::tree_messages;
 use gixobj_hash::Kind as ObjectKind;
 use gixobj_hash::hash::Kind;
 use std::alloc::{AllocError, Global};
+
+/// Returns git's findings about an object, in git's order. There are none about a blob.
+///
+/// The findings are those of `git fsck`, or with strict options of `git fsck --strict`. The list allocates; of a tree
+/// also its entries, and the set of their names.
+///
+/// # Errors
+///
+/// [`AllocError`] if an allocation failed.
+pub fn fsck(
+    alloc: Global,
+    kind: ObjectKind,
+    hash_kind: Kind,
+    content: &[u8],
+    options: &Options,
+) -> Result<Vec<Finding>, AllocError>
+    ensures { IfOk result (λ it. AreFindings options.now kind hash_kind content.now it.items) }
+{
+    match kind {
+        ObjectKind::Tree => fsck_tree(alloc, content, hash_kind, options),
+        ObjectKind::Blob => Ok(Vec::new(alloc)),
+        ObjectKind::Commit => fsck_commit(alloc, hash_kind, content, options),
+        ObjectKind::Tag => fsck_tag(alloc, hash_kind, content, options),
+    }
+}
 
 /// Returns whether git accepts an object: none of its messages counts as an error.
 ///
@@ -40,8 +70,7 @@ pub fn is_object_accepted(
 
 /// Returns whether `git receive-pack` takes an object if `receive.fsckObjects` is set.
 ///
-/// The check is strict. Before it git's parser rejects tags that are shorter than any with a name of one byte.
-/// Allocates what [`is_object_accepted`] allocates.
+/// Git's parser has to take it, and the check is strict. Allocates what [`is_object_accepted`] allocates.
 ///
 /// # Errors
 ///
@@ -59,7 +88,7 @@ pub fn is_object_received(
     match kind {
         ObjectKind::Tree => is_tree_accepted(alloc, hash_kind, content, true),
         ObjectKind::Blob => Ok(true),
-        ObjectKind::Commit => Ok(is_commit_accepted(hash_kind, content, true)),
+        ObjectKind::Commit => Ok(is_commit_received(hash_kind, content)),
         ObjectKind::Tag => Ok(is_tag_received(hash_kind, content)),
     }
 }
@@ -75,21 +104,22 @@ fn is_tree_accepted(
         ↔ IsAcceptedTree strict hash_kind content.now) }
     ensures error { OnErr result (BeginsWithSomeRawEntry hash_kind content.now) }
 {
-    let messages = fsck_tree(alloc, content, hash_kind, strict)?;
+    let messages = tree_messages(alloc, content, hash_kind, strict)?;
     Ok(!messages.has_error(strict))
+}
+
+/// Returns whether git takes a commit.
+fn is_commit_received(hash_kind: Kind, content: &[u8]) -> bool
+    ensures { IsTrue result ↔ (IsParsedCommit hash_kind content.now
+        × IsAcceptedCommit true hash_kind content.now) }
+{
+    is_parsed_commit(hash_kind, content) && is_commit_accepted(hash_kind, content, true)
 }
 
 /// Returns whether git takes a tag.
 fn is_tag_received(hash_kind: Kind, content: &[u8]) -> bool
-    ensures { IsTrue result ↔ (IsLongTag hash_kind content.now
+    ensures { IsTrue result ↔ (IsParsedTag hash_kind content.now
         × IsAcceptedTag true hash_kind content.now) }
 {
-    is_long_tag(hash_kind, content) && is_tag_accepted(hash_kind, content, true)
-}
-
-/// Returns whether a tag is as long as git's parser requires.
-fn is_long_tag(hash_kind: Kind, content: &[u8]) -> bool
-    ensures { IsTrue result ↔ IsLongTag hash_kind content.now }
-{
-    content.len() >= 2 * hash_kind.len_in_bytes() + 24
+    is_parsed_tag(hash_kind, content) && is_tag_accepted(hash_kind, content, true)
 }
