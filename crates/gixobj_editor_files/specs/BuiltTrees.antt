@@ -19,7 +19,8 @@ pub data IsBuilt (pairs : List Pair) : List EntryView → Type 0 where
       → ((e : EntryView) → ContainsEntry entries e → is_tree_mode e.mode ≡ true → e.mode ≡ tree_type)
       → (tree : (e : EntryView) → ContainsEntry entries e → is_tree_mode e.mode ≡ true → List EntryView)
       → ((e : EntryView) (h : ContainsEntry entries e) (t : is_tree_mode e.mode ≡ true) → tree e h t ≢ [])
-      → ((e : EntryView) (h : ContainsEntry entries e) (t : is_tree_mode e.mode ≡ true) → Contains pairs (e.id, tree e h t))
+      → ((e : EntryView) (h : ContainsEntry entries e) (t : is_tree_mode e.mode ≡ true)
+      → Contains pairs (e.id, tree e h t))
       → ((e : EntryView) (h : ContainsEntry entries e) (t : is_tree_mode e.mode ≡ true) → IsBuilt pairs (tree e h t))
       → IsBuilt pairs entries
 

@@ -108,7 +108,8 @@ module _ {StopsBefore : EntryView → Type 0} (trees : Trees) where
       → StopsOpening StopsBefore trees path old new looked_up failed → (name : List ℕ) → path ≡ name ∷ [] → (rest : Path)
       → StopsOpening StopsBefore trees (name ∷ rest) old new looked_up failed
   halts_stays path old new looked_up failed (before_lookup n after d e own tree free none idle) name is rest =
-      subst (λ (m : List ℕ). StopsOpening StopsBefore trees (m ∷ rest) d d [] None) (same_head n name after [] is) (before_lookup n rest d e own tree free none idle)
+      subst (λ (m : List ℕ). StopsOpening StopsBefore trees (m ∷ rest) d d [] None) (same_head n name after [] is)
+      (before_lookup n rest d e own tree free none idle)
   halts_stays path old new looked_up failed (at_lookup n after d e own tree free none filled) name is rest =
       subst (λ (m : List ℕ). StopsOpening StopsBefore trees (m ∷ rest) d d (e.id ∷ []) (Some e.id)) (same_head n name after [] is)
       (at_lookup n rest d e own tree free none filled)

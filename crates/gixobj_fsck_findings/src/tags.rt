@@ -17,11 +17,12 @@ use std::alloc::{AllocError, Global};
 
 /// Returns git's messages about a tag in the order of git's reports, each at its offset.
 ///
-/// Ids are hex of the hash function `kind`. A message that counts as an error by the options ends the check, but for one
-/// of the tagger, after which git looks for extra headers. `missingObject`, `missingTypeEntry` and `missingTagEntry` end
-/// it always. Messages that the options ignore aren't listed: `extraHeaderEntry` is, if its severity is overridden. The
-/// offset is that of the message's line, or of where a missing line was expected. That of `nulInHeader` is the first
-/// zero byte, that of `unterminatedHeader` the end. The list allocates, and nothing else.
+/// Ids are hex of the hash function `kind`. A message that counts as an error by the options ends the check,
+/// but for one of the tagger, after which git looks for extra headers. `missingObject`, `missingTypeEntry` and
+/// `missingTagEntry` end it always. Messages that the options ignore aren't listed: `extraHeaderEntry` is, if
+/// its severity is overridden. The offset is that of the message's line, or of where a missing line was
+/// expected. That of `nulInHeader` is the first zero byte, that of `unterminatedHeader` the end. The list
+/// allocates, and nothing else.
 ///
 /// # Errors
 ///

@@ -34,32 +34,32 @@ value_after_ge m (d ∷ digits) = let more = value_after_ge (m * 8 + digit_value
 -- a number from 4096 to 32767 has five digits
 five_digits : (a : ℕ) (rest : List ℕ) → AllDigits 8 (a ∷ rest) → 0 < digit_value a → 4096 ≤ digits_value 8 (a ∷ rest)
     → digits_value 8 (a ∷ rest) < 32768 → length (a ∷ rest) ≡ 5
-five_digits a [] octal some least most = absurd (omega (arith, octal.0, least))
-five_digits a (b ∷ []) octal some least most = absurd (omega (arith, octal.0, octal.1.0, least))
-five_digits a (b ∷ c ∷ []) octal some least most = absurd (omega (arith, octal.0, octal.1.0, octal.1.1.0, least))
-five_digits a (b ∷ c ∷ d ∷ []) octal some least most =
-    absurd (omega (arith, octal.0, octal.1.0, octal.1.1.0, octal.1.1.1.0, least))
-five_digits a (b ∷ c ∷ d ∷ e ∷ []) octal some least most = refl
-five_digits a (b ∷ c ∷ d ∷ e ∷ f ∷ rest) octal some least most =
+five_digits a [] octal some minimum maximum = absurd (omega (arith, octal.0, minimum))
+five_digits a (b ∷ []) octal some minimum maximum = absurd (omega (arith, octal.0, octal.1.0, minimum))
+five_digits a (b ∷ c ∷ []) octal some minimum maximum = absurd (omega (arith, octal.0, octal.1.0, octal.1.1.0, minimum))
+five_digits a (b ∷ c ∷ d ∷ []) octal some minimum maximum =
+    absurd (omega (arith, octal.0, octal.1.0, octal.1.1.0, octal.1.1.1.0, minimum))
+five_digits a (b ∷ c ∷ d ∷ e ∷ []) octal some minimum maximum = refl
+five_digits a (b ∷ c ∷ d ∷ e ∷ f ∷ rest) octal some minimum maximum =
     let more = value_after_ge ((((((0 * 8 + digit_value a) * 8 + digit_value b) * 8 + digit_value c) * 8 + digit_value d) * 8 + digit_value e) * 8
     + digit_value f) rest in
-    absurd (omega (arith, more, some, most))
+    absurd (omega (arith, more, some, maximum))
 
 -- a number from 32768 to 65535 has six digits
 six_digits : (a : ℕ) (rest : List ℕ) → AllDigits 8 (a ∷ rest) → 0 < digit_value a → 32768 ≤ digits_value 8 (a ∷ rest)
     → digits_value 8 (a ∷ rest) < 65536 → length (a ∷ rest) ≡ 6
-six_digits a [] octal some least most = absurd (omega (arith, octal.0, least))
-six_digits a (b ∷ []) octal some least most = absurd (omega (arith, octal.0, octal.1.0, least))
-six_digits a (b ∷ c ∷ []) octal some least most = absurd (omega (arith, octal.0, octal.1.0, octal.1.1.0, least))
-six_digits a (b ∷ c ∷ d ∷ []) octal some least most =
-    absurd (omega (arith, octal.0, octal.1.0, octal.1.1.0, octal.1.1.1.0, least))
-six_digits a (b ∷ c ∷ d ∷ e ∷ []) octal some least most =
-    absurd (omega (arith, octal.0, octal.1.0, octal.1.1.0, octal.1.1.1.0, octal.1.1.1.1.0, least))
-six_digits a (b ∷ c ∷ d ∷ e ∷ f ∷ []) octal some least most = refl
-six_digits a (b ∷ c ∷ d ∷ e ∷ f ∷ g ∷ rest) octal some least most =
+six_digits a [] octal some minimum maximum = absurd (omega (arith, octal.0, minimum))
+six_digits a (b ∷ []) octal some minimum maximum = absurd (omega (arith, octal.0, octal.1.0, minimum))
+six_digits a (b ∷ c ∷ []) octal some minimum maximum = absurd (omega (arith, octal.0, octal.1.0, octal.1.1.0, minimum))
+six_digits a (b ∷ c ∷ d ∷ []) octal some minimum maximum =
+    absurd (omega (arith, octal.0, octal.1.0, octal.1.1.0, octal.1.1.1.0, minimum))
+six_digits a (b ∷ c ∷ d ∷ e ∷ []) octal some minimum maximum =
+    absurd (omega (arith, octal.0, octal.1.0, octal.1.1.0, octal.1.1.1.0, octal.1.1.1.1.0, minimum))
+six_digits a (b ∷ c ∷ d ∷ e ∷ f ∷ []) octal some minimum maximum = refl
+six_digits a (b ∷ c ∷ d ∷ e ∷ f ∷ g ∷ rest) octal some minimum maximum =
     let more = value_after_ge (((((((0 * 8 + digit_value a) * 8 + digit_value b) * 8 + digit_value c) * 8 + digit_value d) * 8 + digit_value e) * 8
     + digit_value f) * 8 + digit_value g) rest in
-    absurd (omega (arith, more, some, most))
+    absurd (omega (arith, more, some, maximum))
 
 -- the digits of a number without a first 0
 abbrev pub AreDigitsOf : ℕ → List ℕ → Type 0
@@ -72,20 +72,20 @@ first_digit_pos a low other =
 
 of_six : (mode : ℕ) (digits wanted : List ℕ) → AreDigitsOf mode digits → 32768 ≤ mode → mode < 65536 → length wanted ≡ 6
     → AllDigits 8 wanted → digits_value 8 wanted ≡ mode → digits ≡ wanted
-of_six mode [] wanted are least most len octal value = absurd (omega (arith, are.0.0))
-of_six mode (a ∷ rest) wanted are least most len octal value =
+of_six mode [] wanted are minimum maximum len octal value = absurd (omega (arith, are.0.0))
+of_six mode (a ∷ rest) wanted are minimum maximum len octal value =
     let some = first_digit_pos a are.0.1.0 are.1 in
     let is : digits_value 8 (a ∷ rest) ≡ mode = are.2 in
-    let six = six_digits a rest are.0.1 some (omega (arith, is, least)) (omega (arith, is, most)) in
+    let six = six_digits a rest are.0.1 some (omega (arith, is, minimum)) (omega (arith, is, maximum)) in
     (digits_injective 0 0 (a ∷ rest) wanted (six ∙ sym len) are.0.1 octal (is ∙ sym value)).0
 
 of_five : (mode : ℕ) (digits wanted : List ℕ) → AreDigitsOf mode digits → 4096 ≤ mode → mode < 32768 → length wanted ≡ 5
     → AllDigits 8 wanted → digits_value 8 wanted ≡ mode → digits ≡ wanted
-of_five mode [] wanted are least most len octal value = absurd (omega (arith, are.0.0))
-of_five mode (a ∷ rest) wanted are least most len octal value =
+of_five mode [] wanted are minimum maximum len octal value = absurd (omega (arith, are.0.0))
+of_five mode (a ∷ rest) wanted are minimum maximum len octal value =
     let some = first_digit_pos a are.0.1.0 are.1 in
     let is : digits_value 8 (a ∷ rest) ≡ mode = are.2 in
-    let five = five_digits a rest are.0.1 some (omega (arith, is, least)) (omega (arith, is, most)) in
+    let five = five_digits a rest are.0.1 some (omega (arith, is, minimum)) (omega (arith, is, maximum)) in
     (digits_injective 0 0 (a ∷ rest) wanted (five ∙ sym len) are.0.1 octal (is ∙ sym value)).0
 
 -- git writes the mode and decodes it to itself

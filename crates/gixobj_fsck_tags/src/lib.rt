@@ -1,7 +1,7 @@
 //! Git's messages about a tag, and its verdict.
 //!
-//! [`tag_messages`] returns the messages of `git fsck` as a set, and [`is_tag_accepted`] whether git accepts the tag. Both
-//! run without git's parser, which rejects some malformed tags before a check.
+//! [`tag_messages`] returns the messages of `git fsck` as a set, and [`is_tag_accepted`] whether git accepts the tag.
+//! Both run without git's parser, which rejects some malformed tags before a check.
 #![tactic(auto)]
 
 pub mod tags;
