@@ -15,6 +15,8 @@ mod never;
 #[cfg(test)]
 mod paths;
 #[cfg(test)]
+mod received;
+#[cfg(test)]
 mod recording;
 #[cfg(test)]
 mod samples;
