@@ -3,7 +3,7 @@
 use gixobj_base::hash::Kind;
 use gixobj_fsck::{commit_messages, is_commit_accepted};
 use gixobj_fsck_messages::{Message, Messages, Severity};
-use gixobj_fsck_tags::{tag_messages, is_tag_accepted};
+use gixobj_fsck_tags::{is_tag_accepted, tag_messages};
 use gixobj_tests_recorded::answer::Answer;
 use gixobj_tests_recorded::fields::{kind_of_ids, split_at_first, yes_or_no};
 

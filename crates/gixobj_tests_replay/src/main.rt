@@ -5,6 +5,7 @@
 
 mod actors;
 mod commits;
+mod findings;
 mod fsck;
 mod objects;
 mod trees;
@@ -17,6 +18,7 @@ use commits::{
     beginning_answer, call_answer, commit_answer, search_answer, shape_answer, size_answer,
     token_answer,
 };
+use findings::{fsck_finding_answer, parsed_answer};
 use fsck::{fsck_message_answer, fsck_verdict_answer};
 use gixobj_tests_recorded::answer::Form;
 use gixobj_tests_recorded::tables::{Replay, Rows};
@@ -90,8 +92,10 @@ fn replay_shapes<R: Files + Print + AllocGlobal>(replay: &mut Replay<'_, R>) {
     replay.table("git objects", Named(Escaped), loose_answer);
 }
 
-/// Compares the tables of the messages and verdicts of `git fsck`.
+/// Compares the tables of the messages, verdicts and findings of `git fsck`, and of git's parser.
 fn replay_messages<R: Files + Print + AllocGlobal>(replay: &mut Replay<'_, R>) {
     replay.table("fsck messages", Named(Escaped), fsck_message_answer);
     replay.table("fsck verdicts", Named(Escaped), fsck_verdict_answer);
+    replay.table("fsck findings", Named(Escaped), fsck_finding_answer);
+    replay.table("parsed objects", Named(Escaped), parsed_answer);
 }
