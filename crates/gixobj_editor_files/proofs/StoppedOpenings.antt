@@ -125,7 +125,8 @@ module _ (trees : Trees) where
     refl,
     arrived d,
     refl,
-    λ it unopened seen. absurd (let no : true ≡ false = sym unopened ∙ unopened_here trees name d e entry tree (none []) ∙ needs_no_lookup e.id idle in cc no),
+    λ it unopened seen. absurd (let bad : true ≡ false =
+        sym unopened ∙ unopened_here trees name d e entry tree (none []) ∙ needs_no_lookup e.id idle in cc bad),
   )
   halts_next path old new looked_up failed_lookup (at_lookup name rest d e entry tree free none filled) = (
     [],
