@@ -1,4 +1,5 @@
-//! Objects from strangers, as `git receive-pack` takes them with `receive.fsckObjects` (`git-config`).
+//! Objects from strangers, as `git receive-pack` takes them with `receive.fsckObjects` (`git-config`). Contents of
+//! `.gitmodules` and `.gitattributes` aren't checked.
 ghost use Rattle.std.specs.Prelude.{◌≡◌, All, IfErr, IfOk, OnErr, OnOk};
 ghost use Rattle.std.specs.FinMap as map;
 ghost use Rattle.gixobj_examples_checked.specs.Stores.{AreReceived, IsReceiveError, IsTaken};

@@ -35,8 +35,8 @@ IsAcceptedObject strict object_kind.Blob kind bytes = ⊤
 IsAcceptedObject strict object_kind.Commit kind bytes = IsAcceptedCommit strict kind bytes
 IsAcceptedObject strict object_kind.Tag kind bytes = IsAcceptedTag strict kind bytes
 
--- git takes the object into a repository that has `receive.fsckObjects`: git's parser takes it, and the strict check
--- accepts it. The parser takes each tree
+-- git takes the object into a repository that has `receive.fsckObjects`, contents of `.gitmodules` and
+-- `.gitattributes` aside: git's parser takes it, and the strict check accepts it. The parser takes each tree
 abbrev pub IsReceivedObject : object.Kind → Kind → List ℕ → Type 0
 IsReceivedObject object_kind.Tree kind bytes = IsAcceptedTree true kind bytes
 IsReceivedObject object_kind.Blob kind bytes = ⊤

@@ -70,7 +70,8 @@ pub fn is_object_accepted(
 
 /// Returns whether `git receive-pack` takes an object if `receive.fsckObjects` is set.
 ///
-/// Git's parser has to take it, and the check is strict. Allocates what [`is_object_accepted`] allocates.
+/// Git's parser has to take it, and the check is strict. Contents of `.gitmodules` and `.gitattributes` aren't
+/// checked. Allocates what [`is_object_accepted`] allocates.
 ///
 /// # Errors
 ///
