@@ -1,8 +1,8 @@
 //! The findings and messages about trees.
 
 use crate::options::options_of;
-use gixobj_fsck_tree_findings::fsck_tree;
 use gixobj_fsck_messages::{Finding, Messages, Options};
+use gixobj_fsck_tree_findings::fsck_tree;
 use gixobj_fsck_trees::tree_messages;
 use gixobj_tests_recorded::answer::Answer;
 use gixobj_tests_recorded::fields::{kind_and_bytes, split_at_first};
