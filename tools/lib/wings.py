@@ -16,6 +16,7 @@ WINGS = (
         "gixobj_codec",
     ),
     ("Fsck", "gixobj_fsck gixobj_fsck_*"),
+    ("Walks", "gixobj_walks gixobj_walks_*"),
     ("Signatures", "gixobj_signature gixobj_signature_*"),
     ("Stores", "gixobj_store gixobj_store_*"),
     ("Editor", "gixobj_editor gixobj_editor_*"),

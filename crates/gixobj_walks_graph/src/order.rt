@@ -1,0 +1,11 @@
+//! Orders of walks.
+
+/// The order in which a walk lists commits (git-rev-list, "Commit Ordering"). No order lists a parent before all of its
+/// children.
+#[derive(Clone, Copy, Debug, PartialEq, Eq)]
+pub enum Order {
+    /// The newest first (`--date-order`).
+    Date,
+    /// The parents of the last commit first, so that lines of history stay together (`--topo-order`).
+    Topological,
+}
