@@ -1,0 +1,11 @@
+pub mod Bottoms
+pub mod Ends
+pub mod Kept
+pub mod Marked
+pub mod Paths
+pub mod Queued
+pub mod Replaced
+pub mod SettledAt
+pub mod SharedMarks
+pub mod Spread
+pub mod Tests

@@ -1,0 +1,6 @@
+pub mod Chosen
+pub mod Marks
+pub mod Queue
+pub mod Readings
+pub mod Settled
+pub mod Spreading
