@@ -1,0 +1,4 @@
+pub mod Counts
+pub mod Listed
+pub mod Progress
+pub mod Queues

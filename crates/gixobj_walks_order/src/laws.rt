@@ -1,0 +1,19 @@
+//! What follows from the definition of the order of a walk, for each numbered graph.
+ghost use Rattle.std.specs.Prelude.{◌≡◌, ℕ, Bool, List};
+ghost use Rattle.gixobj_walks_graph.specs.Graph.{AreOnce};
+ghost use Rattle.gixobj_walks_graph.specs.Listing.{IsListing};
+ghost use Rattle.gixobj_walks_graph.specs.Numbered.{IsMarked, Nodes, graph_at};
+ghost use Rattle.gixobj_walks_graph.specs.declared.order.Order.{Order};
+
+/// The graph, the order, the selected commits and the tips determine the list of a walk.
+pub fn listing_is_unique()
+    ensures { (nodes : Nodes) (order : Order) (selected : List Bool) (tips ids others : List ℕ)
+        → IsListing (graph_at nodes) order (IsMarked selected) tips ids
+        → IsListing (graph_at nodes) order (IsMarked selected) tips others → ids ≡ others }
+{}
+
+/// The list of a walk has each commit once.
+pub fn listing_is_once()
+    ensures { (nodes : Nodes) (order : Order) (selected : List Bool) (tips ids : List ℕ)
+        → IsListing (graph_at nodes) order (IsMarked selected) tips ids → AreOnce ids }
+{}
