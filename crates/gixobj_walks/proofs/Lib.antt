@@ -1,0 +1,14 @@
+pub mod BaseEnds
+mod CommitNumbers
+mod IdOrder
+mod LargerGraphs
+mod Machines
+mod GivenCommits
+pub mod NamedBases
+pub mod NamedEnds
+mod NamedLists
+mod NamedWalks
+mod Starts
+pub mod NamedPaths
+pub mod WalkEnds
+mod WalkLists

@@ -1,0 +1,4 @@
+pub mod Machine
+pub mod Named
+pub mod Numbers
+pub mod WalkErrors
