@@ -1,0 +1,4 @@
+pub mod Nodes
+pub mod Paths
+pub mod Seconds
+pub mod Tags
