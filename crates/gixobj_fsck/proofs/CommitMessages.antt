@@ -1,8 +1,9 @@
 -- The message of a commit.
-use Rattle.std.proofs.Common.{◌≡◌, ℕ, List, Ok, Err, inl, inr}
-use Rattle.std.specs.Prelude.{Contains}
+use Rattle.std.proofs.Common.{◌≡◌, ℕ, Bool, true, false, not, List, Ok, Err, inl, inr, refl}
+use Rattle.std.specs.Prelude.{Contains, MatchBool}
+use Rattle.gixobj_hash.specs.ByteStrings.{IsByteFree}
 use Rattle.gixobj_hash.specs.declared.hash.kind.Kind.{Kind}
-use Rattle.gixobj_fsck.specs.Commits.{CommitPart, IsCommitMessage}
+use Rattle.gixobj_fsck.specs.Commits.{CommitPart, HasCommitMessage, IsCleanCommit, IsCommitMessage}
 use Rattle.gixobj_fsck_messages.specs.declared.message.Message.{Message}
 use Rattle.gixobj_fsck_messages.specs.declared.message.Message.TheVariants as message
 use Rattle.gixobj_fsck.proofs.CommitOutcomes.{commit_deterministic}
@@ -18,3 +19,9 @@ pub only_zero : (kind : Kind) (input rest : List ℕ) → CommitPart kind input 
     → Contains input 0 × (it ≡ message.NulInCommit)
 only_zero kind input rest sound it (inl other) = let e = commit_deterministic kind input (Err it) (Ok rest) other sound in cc e
 only_zero kind input rest sound it (inr other) = (other.2, other.3)
+
+-- without a fault a commit is clean unless it has a zero byte
+pub clean_if_no_zero : (kind : Kind) (input rest : List ℕ) (zero : Bool) → CommitPart kind input (Ok rest)
+    → MatchBool zero (Contains input 0) (IsByteFree 0 input) → MatchBool (not zero) (IsCleanCommit kind input) (HasCommitMessage kind input)
+clean_if_no_zero kind input rest true sound has = (message.NulInCommit, inr (rest, sound, has, refl))
+clean_if_no_zero kind input rest false sound free = ((rest, sound), free)

@@ -1,4 +1,5 @@
 pub mod CommitMessages
+mod HeaderBlocks
 pub mod CommitOutcomes
 pub mod MessageSets
 pub mod Numbers

@@ -1,5 +1,6 @@
 -- The messages of git-fsck about a commit (git-fsck, "FSCK MESSAGES").
 use Rattle.std.specs.Prelude.{◌≡◌, ◌⊎◌, ◌∷◌, ◌++◌, ℕ, Bool, Contains, IsTrue, List, Result, Ok, Err, codes}
+use Rattle.gixobj_hash.specs.ByteStrings.{IsByteFree}
 use Rattle.gixobj_hash.specs.Bytes.{space}
 use Rattle.gixobj_hash.specs.HeaderFormat.{BeginsWithOtherName}
 use Rattle.gixobj_hash.specs.declared.hash.kind.Kind.{Kind}
@@ -54,3 +55,11 @@ IsCommitMessage kind input it = CommitPart kind input (Err it)
 abbrev pub IsAcceptedCommit : Bool → Kind → List ℕ → Type 0
 IsAcceptedCommit strict kind input = (it : Message) → IsCommitMessage kind input it
     → ¬ IsTrue (counts_as_error (severity_of strict it))
+
+-- git has a message about the commit
+abbrev pub HasCommitMessage : Kind → List ℕ → Type 0
+HasCommitMessage kind input = (it : Message) × IsCommitMessage kind input it
+
+-- the commit is clean: its lines come up to the committer's, and no byte is zero
+abbrev pub IsCleanCommit : Kind → List ℕ → Type 0
+IsCleanCommit kind input = ((rest : List ℕ) × CommitPart kind input (Ok rest)) × IsByteFree 0 input

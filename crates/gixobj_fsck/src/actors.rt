@@ -3,7 +3,7 @@ ghost use Rattle.std.specs.Prelude.{Err, MatchResult, Ok};
 ghost use Rattle.gixobj_fsck.specs.Actors.{ActorPart, EmailPart, IsAfterLine, NamePart};
 
 use crate::dates::{after_date, after_date_start, after_zone};
-use crate::spans::{Class, split_span};
+use crate::spans::split_name;
 use gixobj_fsck_messages::Message;
 use gixobj_hash::split::split_at_byte;
 
@@ -47,7 +47,7 @@ fn after_name(input: &[u8]) -> Result<&[u8], Message>
     ensures { MatchResult result (λ rest. NamePart input.now (Ok rest.now))
         (λ fault. NamePart input.now (Err fault)) }
 {
-    let (name, rest) = split_span(Class::Name, input);
+    let (name, rest) = split_name(input);
     match rest {
         [b'<', email @ ..] => match name {
             [] => Err(Message::MissingNameBeforeEmail),
@@ -64,7 +64,7 @@ fn after_email(input: &[u8]) -> Result<&[u8], Message>
     ensures { MatchResult result (λ rest. EmailPart input.now (Ok rest.now))
         (λ fault. EmailPart input.now (Err fault)) }
 {
-    let (_, rest) = split_span(Class::Name, input);
+    let (_, rest) = split_name(input);
     match rest {
         [b'>', date @ ..] => Ok(date),
         _ => Err(Message::BadEmail),

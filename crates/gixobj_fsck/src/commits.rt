@@ -1,6 +1,7 @@
 //! The messages about commits.
-ghost use Rattle.std.specs.Prelude.{◌↔◌, Err, IsTrue, MatchResult, Ok};
-ghost use Rattle.gixobj_fsck.specs.Commits.{CommitPart, IsAcceptedCommit, IsCommitMessage, MoreAuthors, NoMoreAuthors, ParentLines, PeoplePart};
+ghost use Rattle.std.specs.Prelude.{◌↔◌, Contains, Err, IsTrue, MatchBool, MatchResult, Ok};
+ghost use Rattle.gixobj_fsck.specs.Commits.{CommitPart, HasCommitMessage, IsAcceptedCommit, IsCleanCommit, IsCommitMessage, MoreAuthors, NoMoreAuthors, ParentLines, PeoplePart};
+ghost use Rattle.gixobj_hash.specs.ByteStrings.{IsByteFree};
 ghost use Rattle.gixobj_fsck_messages.specs.Sets.{HasMessage};
 ghost use Rattle.gixobj_fsck_messages.specs.declared.message.Message.{Message};
 
@@ -9,8 +10,8 @@ use crate::headers::check_header;
 use crate::lines::{after_actor_line, after_id_line};
 use gixobj_fsck_messages::{Message, Messages};
 use gixobj_hash::hash::Kind;
-use gixobj_hash::split::has_byte;
 use gixobj_parse::parse::{after_name, header_id};
+use memchr::memchr;
 
 /// Returns git's messages about a commit, of which there is at most one.
 ///
@@ -22,12 +23,32 @@ pub fn commit_messages(kind: Kind, commit: &[u8]) -> Messages
     match after_committer(kind, commit) {
         Err(fault) => messages.insert(fault),
         Ok(_) => {
-            if has_byte(commit, 0) {
+            if has_zero(commit) {
                 messages.insert(Message::NulInCommit);
             }
         }
     }
     messages
+}
+
+/// Returns whether a commit is clean: git has no message about it, strict or not.
+///
+/// Ids are hex of the hash function `kind`. Allocates nothing.
+pub fn is_clean_commit(kind: Kind, commit: &[u8]) -> bool
+    ensures { MatchBool result (IsCleanCommit kind commit.now)
+        (HasCommitMessage kind commit.now) }
+{
+    match after_committer(kind, commit) {
+        Ok(_) => !has_zero(commit),
+        Err(_) => false,
+    }
+}
+
+/// Returns whether a byte is zero.
+fn has_zero(content: &[u8]) -> bool
+    ensures { MatchBool result (Contains content.now 0) (IsByteFree 0 content.now) }
+{
+    memchr(0, content).is_some()
 }
 
 /// Returns whether git accepts a commit: none of its messages counts as an error.

@@ -1,6 +1,9 @@
 //! The longest prefix of a input whose bytes are of one class.
 ghost use Rattle.std.specs.Prelude.{◌≡◌};
 ghost use Rattle.gixobj_fsck.specs.Spans.{IsSpan, is_of_class};
+ghost use Rattle.gixobj_fsck.specs.declared.spans.Class.TheVariants as class;
+
+use memchr::memchr3;
 
 /// A class of bytes.
 #[derive(Clone, Copy)]
@@ -36,4 +39,14 @@ pub fn split_span(class: Class, input: &[u8]) -> (&[u8], &[u8])
         }
     }
     (input, b"")
+}
+
+/// Splits before the first of `<`, `>` and a newline. Allocates nothing.
+pub fn split_name(input: &[u8]) -> (&[u8], &[u8])
+    ensures { IsSpan class.Name input.now result.0.now result.1.now }
+{
+    match memchr3(b'<', b'>', b'\n', input) {
+        Some(at) => (&input[..at], &input[at..]),
+        None => (input, b""),
+    }
 }

@@ -1,3 +1,4 @@
+mod CleanObjects
 pub mod CommitLists
 pub mod Lists
 pub mod Parsed

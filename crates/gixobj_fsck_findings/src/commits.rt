@@ -1,5 +1,6 @@
 //! The findings about commits.
-ghost use Rattle.std.specs.Prelude.{◌≡◌, IfOk, None, codes};
+ghost use Rattle.std.specs.Prelude.{◌≡◌, IfOk, None, OnErr, codes};
+ghost use Rattle.gixobj_fsck.specs.Commits.{HasCommitMessage};
 ghost use Rattle.gixobj_fsck_findings.specs.Checks.{AndThen, rest_of};
 ghost use Rattle.gixobj_fsck_findings.specs.CommitChecks.{AreCommitFindings, AuthorLines, AuthorsCheck, CommitCheck, CommitterCheck, FollowsParents, MoreAuthorsCheck, ParentsCheck, PeopleCheck, ZeroCheck};
 ghost use Rattle.gixobj_fsck_messages.specs.Options.{severity_by};
@@ -7,6 +8,7 @@ ghost use Rattle.gixobj_parse.specs.HeaderReading.{BeginsWithNoIdField};
 
 use crate::lines::{IdLineRule, check_actor, check_header, check_id_line};
 use crate::list::{list, offset_of, rest_after};
+use gixobj_fsck::is_clean_commit;
 use gixobj_fsck_messages::{Finding, Message, Options};
 use gixobj_hash::hash::Kind;
 use gixobj_hash::split::split_at_byte;
@@ -22,7 +24,7 @@ use std::alloc::{AllocError, Global};
 ///
 /// # Errors
 ///
-/// [`AllocError`] if an allocation failed.
+/// [`AllocError`] if an allocation failed, only for a commit about which git has a message.
 pub fn fsck_commit(
     alloc: Global,
     kind: Kind,
@@ -31,8 +33,12 @@ pub fn fsck_commit(
 ) -> Result<Vec<Finding>, AllocError>
     ensures found { IfOk result (λ findings.
         AreCommitFindings (severity_by options.now) kind commit.now findings.items) }
+    ensures error { OnErr result (HasCommitMessage kind commit.now) }
 {
     let mut findings = Vec::new(alloc);
+    if is_clean_commit(kind, commit) {
+        return Ok(findings);
+    }
     check_commit(&mut findings, options, kind, commit)?;
     Ok(findings)
 }

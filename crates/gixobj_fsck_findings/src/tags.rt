@@ -1,5 +1,6 @@
 //! The findings about tags.
-ghost use Rattle.std.specs.Prelude.{◌≡◌, IfOk, None, codes};
+ghost use Rattle.std.specs.Prelude.{◌≡◌, IfOk, None, OnErr, codes};
+ghost use Rattle.gixobj_fsck_tags.specs.Tags.{HasTagMessage};
 ghost use Rattle.gixobj_fsck_findings.specs.Checks.{rest_of};
 ghost use Rattle.gixobj_fsck_findings.specs.TagChecks.{AreTagFindings, ExtraCheck, IsFieldFault, NameCheck, NamesCheck, TagCheck, TaggerCheck, TypeCheck};
 ghost use Rattle.gixobj_fsck_messages.specs.Options.{severity_by};
@@ -9,6 +10,7 @@ use crate::lines::{IdLineRule, check_header, check_id_line};
 use crate::list::{list, offset_of, rest_after};
 use gixobj_fsck::actors::{after_actor, after_line};
 use gixobj_fsck_messages::{Finding, Message, Options};
+use gixobj_fsck_tags::is_clean_tag;
 use gixobj_fsck_tags::tags::is_reference_name;
 use gixobj_hash::Kind as ObjectKind;
 use gixobj_hash::hash::Kind;
@@ -26,7 +28,7 @@ use std::alloc::{AllocError, Global};
 ///
 /// # Errors
 ///
-/// [`AllocError`] if an allocation failed.
+/// [`AllocError`] if an allocation failed, only for a tag about which git has a message, or with an extra header.
 pub fn fsck_tag(
     alloc: Global,
     kind: Kind,
@@ -35,8 +37,12 @@ pub fn fsck_tag(
 ) -> Result<Vec<Finding>, AllocError>
     ensures found { IfOk result (λ findings.
         AreTagFindings (severity_by options.now) kind tag.now findings.items) }
+    ensures error { OnErr result (HasTagMessage kind tag.now) }
 {
     let mut findings = Vec::new(alloc);
+    if is_clean_tag(kind, tag) {
+        return Ok(findings);
+    }
     check_tag(&mut findings, options, kind, tag)?;
     Ok(findings)
 }

@@ -1,2 +1,3 @@
+pub mod CleanTags
 pub mod TagMessages
 pub mod TagOutcomes

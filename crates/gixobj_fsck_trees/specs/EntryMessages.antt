@@ -1,9 +1,11 @@
 -- The messages of git-fsck about single entries of a tree (git-fsck, "FSCK MESSAGES").
-use Rattle.std.specs.Prelude.{◌≡◌, ◌⊎◌, Bool, false, All, Contains, codes}
+use Rattle.std.specs.Prelude.{◌≡◌, ◌⊎◌, ◌∷◌, [], ℕ, Bool, false, List, All, Contains, codes}
 use Rattle.gixobj_fsck_messages.specs.declared.message.Message.{Message}
 use Rattle.gixobj_fsck_messages.specs.declared.message.Message.TheVariants as message
 use Rattle.gixobj_fsck_names.specs.DotFiles.{IsGitAttributes, IsGitIgnore, IsGitModules, IsMailmap}
 use Rattle.gixobj_fsck_names.specs.DotGit.{IsDotGit}
+use Rattle.gixobj_fsck_names.specs.Letters.{backslash, dot}
+use Rattle.gixobj_hash.specs.ByteStrings.{IsByteFree}
 use Rattle.gixobj_hash.specs.Bytes.{slash}
 use Rattle.gixobj_tree_entries.specs.Mode.{link_type, type_bits}
 use Rattle.gixobj_fsck_trees.specs.RawEntries.{RawEntryView}
@@ -30,6 +32,17 @@ HasNameMessage e it = ((it ≡ message.FullPathname) × Contains e.name slash)
     ⊎ ((it ≡ message.HasDot) × (e.name ≡ codes "."))
     ⊎ ((it ≡ message.HasDotdot) × (e.name ≡ codes ".."))
     ⊎ ((it ≡ message.HasDotgit) × IsDotGit e.name)
+
+-- a name with a message may begin with this byte, if it has no slash and no backslash: a dot, `g` in either case, or
+-- the first byte of a code point that HFS+ ignores
+abbrev pub MayBeginFault : ℕ → Type 0
+MayBeginFault first = (first ≡ dot) ⊎ (first ≡ 71) ⊎ (first ≡ 103) ⊎ (first ≡ 0xe2) ⊎ (first ≡ 0xef)
+
+-- the name has no such first byte, no slash and no backslash
+abbrev pub IsPlainName : List ℕ → Type 0
+IsPlainName [] = ⊥
+IsPlainName (first ∷ rest) = (¬ MayBeginFault first) × IsByteFree slash (first ∷ rest)
+    × IsByteFree backslash (first ∷ rest)
 
 -- the message is about this entry, but not as a link: about its name, an id of zeros, or a mode that begins with 0
 abbrev pub HasFault : RawEntryView → Message → Type 0

@@ -97,12 +97,12 @@ pub fn first_step_down(entries: &[RawEntry]) -> Option<usize>
 pub fn steps_down(entry: &RawEntry, next: &RawEntry) -> bool
     ensures { IsTrue result ↔ StepsDown (raw_entry_view entry.now) (raw_entry_view next.now) }
 {
-    entry.name != next.name
-        && !name_order(
-            entry.name,
-            is_directory(entry),
-            next.name,
-            is_directory(next),
-        )
-        .is_lt()
+    !name_order(
+        entry.name,
+        is_directory(entry),
+        next.name,
+        is_directory(next),
+    )
+    .is_lt()
+        && entry.name != next.name
 }

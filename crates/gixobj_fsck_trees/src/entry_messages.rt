@@ -3,10 +3,11 @@ ghost use Rattle.std.specs.Prelude.{◌≡◌, ◌⊎◌, ◌↔◌, ◌==◌, A
 ghost use Rattle.gixobj_fsck_messages.specs.Sets.{HasMessage};
 ghost use Rattle.gixobj_fsck_messages.specs.declared.message.Message.{Message as MessageType};
 ghost use Rattle.gixobj_hash.specs.Bytes.{slash};
-ghost use Rattle.gixobj_fsck_trees.specs.EntryMessages.{HasBadMode, HasEntryMessage, HasFault, HasLinkMessage, HasNameMessage, IsLink};
+ghost use Rattle.gixobj_fsck_trees.specs.EntryMessages.{HasBadMode, HasEntryMessage, HasFault, HasLinkMessage, HasNameMessage, IsLink, IsPlainName, MayBeginFault};
 ghost use Rattle.gixobj_fsck_trees.specs.RawViews.{raw_entry_view};
 ghost use Rattle.gixobj_fsck_trees.specs.TreeMessages.{is_directory as is_directory_of};
 
+use crate::near::is_free_of_separators;
 use crate::raw_entry::RawEntry;
 use crate::sets::with;
 use gixobj_fsck_messages::{Message, Messages};
@@ -63,10 +64,40 @@ fn with_name(messages: Messages, entry: &RawEntry) -> Messages
     ensures { (it : MessageType) → HasMessage result it
         ↔ (HasMessage messages it ⊎ HasNameMessage (raw_entry_view entry.now) it) }
 {
+    if is_plain(entry.name) {
+        return messages;
+    }
+    with_any_name(messages, entry)
+}
+
+/// Returns the messages, with those about the name of any entry.
+fn with_any_name(messages: Messages, entry: &RawEntry) -> Messages
+    ensures { (it : MessageType) → HasMessage result it
+        ↔ (HasMessage messages it ⊎ HasNameMessage (raw_entry_view entry.now) it) }
+{
     let full = with(messages, Message::FullPathname, has_slash(entry.name));
     let dot = with(full, Message::HasDot, is_name(entry.name, b"."));
     let dotdot = with(dot, Message::HasDotdot, is_name(entry.name, b".."));
     with(dotdot, Message::HasDotgit, is_dot_git(entry.name))
+}
+
+/// Returns whether the name can have no message, by its first byte and by its slashes and backslashes.
+#[inline(always)]
+fn is_plain(name: &[u8]) -> bool
+    ensures { IsTrue result → IsPlainName name.now }
+{
+    match name {
+        [] => false,
+        [first, ..] => !may_begin_fault(*first) && is_free_of_separators(name),
+    }
+}
+
+/// Returns whether a name with a message may begin with this byte, if it has no slash and no backslash.
+#[inline(always)]
+fn may_begin_fault(first: u8) -> bool
+    ensures { IsTrue result ↔ MayBeginFault first }
+{
+    matches!(first, b'.' | b'G' | b'g' | 0xe2 | 0xef)
 }
 
 /// Returns whether the message is about this entry, but not as a link. Allocates nothing.

@@ -6,6 +6,7 @@ pub mod entry_messages;
 pub mod laws;
 mod message_set;
 pub mod name_twice;
+mod near;
 pub mod raw_entry;
 pub mod read_tree;
 mod sets;

@@ -5,6 +5,7 @@ ghost use Rattle.gixobj_fsck_trees.specs.RawViews.{raw_entry_views};
 ghost use Rattle.gixobj_fsck_trees.specs.TreeMessages.{Ascend, HasNameTwice};
 
 use crate::raw_entry::RawEntry;
+use gixobj_tree_entries::order::key_order;
 use std::alloc::{AllocError, Global};
 use std::collections::BTreeSet;
 
@@ -52,7 +53,7 @@ fn names_ascend(entries: &[RawEntry]) -> bool
     let mut previous = first;
     let mut rest = others;
     while let Some((entry, after)) = rest.split_first() {
-        if !previous.name.cmp(entry.name).is_lt() {
+        if !key_order(previous.name, false, entry.name, false).is_lt() {
             return false;
         }
         previous = entry;

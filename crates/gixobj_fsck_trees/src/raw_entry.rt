@@ -4,8 +4,8 @@ ghost use Rattle.std.specs.Str.Parse.{AllDigits, IsNumeral, digits_value};
 ghost use Rattle.gixobj_fsck_trees.specs.RawViews.{raw_entry_view};
 ghost use Rattle.gixobj_fsck_trees.specs.RawEntries.{BeginsWithNoRawEntry, BeginsWithRawEntry};
 
+use crate::near::split_near;
 use gixobj_hash::hash::Kind;
-use gixobj_hash::split::split_at_byte;
 
 /// An entry of a tree.
 #[derive(Clone, Copy)]
@@ -40,13 +40,13 @@ pub(crate) fn decode_raw_entry(
     ensures end { IfSome result (λ it. it.0.end + length it.1.now ≡ len) }
     ensures shorter { IfSome result (λ it. length it.1.now < length input.now) }
 {
-    let Some((digits, from_name)) = split_at_byte(input, b' ') else {
+    let Some((digits, from_name)) = split_near(input, b' ') else {
         return None;
     };
     if !is_octal_numeral(digits) {
         return None;
     }
-    let Some((name, from_id)) = split_at_byte(from_name, 0) else {
+    let Some((name, from_id)) = split_near(from_name, 0) else {
         return None;
     };
     let id_len = hash_kind.len_in_bytes();

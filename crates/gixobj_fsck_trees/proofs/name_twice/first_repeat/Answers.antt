@@ -1,4 +1,4 @@
-use Rattle.std.proofs.Common.{◌≡◌, ◌<◌, ◌∙◌, ℕ, Bool, List, Bor, rules, length, sym}
+use Rattle.std.proofs.Common.{◌<◌, ◌∙◌, ℕ, Bool, List, Bor, rules, length, sym}
 use Rattle.std.specs.BTreeSet.{contains}
 use Rattle.gixobj_fsck_trees.proofs.FirstOffsets.{name_twice_of_repeat}
 use Rattle.gixobj_fsck_trees.proofs.NamesAscend.{not_twice_of_ascend}

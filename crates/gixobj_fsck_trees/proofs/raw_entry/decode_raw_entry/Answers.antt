@@ -11,19 +11,19 @@ returns-then-not-is_octal_numeral-clause-none c =
     let other : ¬ IsNumeral 8 c.in-Some.digits.now = search rules in
     no_entry_of_digits c.args.hash_kind c.args.input.now c.in-Some.digits.now c.in-Some.from_name.now c.in-Some.ensures.found other
 
-pub returns-in_default-split_at_byte-clause-none : goal.returns-in_default-split_at_byte-clause-none
-returns-in_default-split_at_byte-clause-none c =
+pub returns-in_default-split_near-clause-none : goal.returns-in_default-split_near-clause-none
+returns-in_default-split_near-clause-none c =
     no_entry_of_zero_free c.args.hash_kind c.args.input.now c.in-Some.digits.now c.in-Some.from_name.now c.in-Some.ensures.found
-    c.in_default-split_at_byte.ensures.none
+    c.in_default-split_near.ensures.none
 
 pub returns-then-is_empty-clause-none : goal.returns-then-is_empty-clause-none
 returns-then-is_empty-clause-none c =
-    let len : length c.in-Some-split_at_byte.name.now ≡ 0 = search rules in
-    let empty = nil_of_len c.in-Some-split_at_byte.name.now len in
-    no_entry_of_name c.args.hash_kind c.args.input.now c.in-Some.digits.now c.in-Some.from_name.now c.in-Some-split_at_byte.name.now
-    c.in-Some-split_at_byte.from_id.now c.in-Some.ensures.found c.in-Some-split_at_byte.ensures.found (inl empty)
+    let len : length c.in-Some-split_near.name.now ≡ 0 = search rules in
+    let empty = nil_of_len c.in-Some-split_near.name.now len in
+    no_entry_of_name c.args.hash_kind c.args.input.now c.in-Some.digits.now c.in-Some.from_name.now c.in-Some-split_near.name.now
+    c.in-Some-split_near.from_id.now c.in-Some.ensures.found c.in-Some-split_near.ensures.found (inl empty)
 
 pub returns-then-from_id-id_len-clause-none : goal.returns-then-from_id-id_len-clause-none
 returns-then-from_id-id_len-clause-none c =
-    no_entry_of_name c.args.hash_kind c.args.input.now c.in-Some.digits.now c.in-Some.from_name.now c.in-Some-split_at_byte.name.now
-    c.in-Some-split_at_byte.from_id.now c.in-Some.ensures.found c.in-Some-split_at_byte.ensures.found (inr (search rules))
+    no_entry_of_name c.args.hash_kind c.args.input.now c.in-Some.digits.now c.in-Some.from_name.now c.in-Some-split_near.name.now
+    c.in-Some-split_near.from_id.now c.in-Some.ensures.found c.in-Some-split_near.ensures.found (inr (search rules))
