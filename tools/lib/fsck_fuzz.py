@@ -202,12 +202,10 @@ class Git:
 
 
 def differs(kind, wanted, found):
-    """Whether the messages differ. Git repeats those on links for each entry, and the library has a set. Of a tree
-    that isn't sorted git may miss a name that comes twice."""
-    if kind == "tree":
-        wanted, found = set(wanted), set(found)
-        if any(it == "treeNotSorted" for _, it in wanted) and not any(it == "duplicateEntries" for _, it in wanted):
-            found = {it for it in found if it[1] != "duplicateEntries"}
+    """Whether the messages differ. Of a tree that isn't sorted git may miss a name that comes twice."""
+    reported = {it for _, it in wanted}
+    if kind == "tree" and "treeNotSorted" in reported and "duplicateEntries" not in reported:
+        found = [it for it in found if it[1] != "duplicateEntries"]
     return wanted != found
 
 

@@ -41,6 +41,9 @@ class Here:
             found["new encoding"] = None
         return found
 
+    def rejects(self, kind, data):
+        return not self.lib.check(KINDS[kind], data)
+
     def reject_parts(self, kind, data):
         """Ends the run if the bytes are rejected as an object, and have all parts of one."""
         call = {"commit": self.lib.tokens, "tree": self.lib.entries, "tag": self.lib.tag_tokens}[kind]
@@ -145,6 +148,14 @@ class Dulwich:
         from dulwich.objects import ShaFile
 
         self.type, self.version = ShaFile, ".".join(map(str, dulwich.__version__))
+
+    def rejects(self, kind, data):
+        """Whether `check` rejects the object, by its own error or another one."""
+        try:
+            self.type.from_raw_string(KINDS[kind], data).check()
+        except Exception:  # noqa: BLE001
+            return True
+        return False
 
     def decode(self, kind, data):
         return getattr(self, kind)(self.type.from_raw_string(KINDS[kind], data))
