@@ -326,6 +326,35 @@ static int fsck(void) {
   return 0;
 }
 
+/* The finding is this message at this offset, with this severity. */
+static int is_finding(gixobj_fsck_finding it, uint32_t message, size_t offset, uint32_t severity) {
+  return it.message == message && it.offset == offset && it.severity == severity;
+}
+
+static int findings(void) {
+  static const char links[] = "120000 .gitmodules\0" ID "120000 .mailmap\0" ID "120000 a\\.gitmodules\0" ID;
+  static const char tag[] = TARGET "tag a b\ntagger A <a> x\n";
+  static const gixobj_fsck_finding kept = {9, 9, 9};
+  gixobj_fsck_finding out[4] = {kept, kept, kept, kept};
+  size_t count = 9;
+  WANT(gixobj_fsck_findings(GIXOBJ_SHA1, GIXOBJ_TREE, BYTES(links), 0, out, 2, &count) == GIXOBJ_BUFFER_TOO_SHORT);
+  WANT(count == 3 && is_finding(out[0], 9, 9, 9));
+  WANT(gixobj_fsck_findings(GIXOBJ_SHA1, GIXOBJ_TREE, BYTES(links), 0, out, 4, &count) == GIXOBJ_DONE && count == 3);
+  WANT(is_finding(out[0], GIXOBJ_FSCK_GITMODULES_SYMLINK, 0, GIXOBJ_SEVERITY_ERROR));
+  WANT(is_finding(out[1], GIXOBJ_FSCK_MAILMAP_SYMLINK, 39, GIXOBJ_SEVERITY_INFO));
+  WANT(is_finding(out[2], GIXOBJ_FSCK_GITMODULES_SYMLINK, 75, GIXOBJ_SEVERITY_ERROR) && is_finding(out[3], 9, 9, 9));
+  WANT(gixobj_fsck_findings(GIXOBJ_SHA1, GIXOBJ_TAG, BYTES(tag), 1, out, 2, &count) == GIXOBJ_DONE && count == 2);
+  WANT(is_finding(out[0], GIXOBJ_FSCK_BAD_TAG_NAME, 60, GIXOBJ_SEVERITY_INFO));
+  WANT(is_finding(out[1], GIXOBJ_FSCK_BAD_DATE, 68, GIXOBJ_SEVERITY_ERROR));
+  WANT(gixobj_fsck_findings(GIXOBJ_SHA1, GIXOBJ_BLOB, BYTES("x"), 0, out, 0, &count) == GIXOBJ_DONE && count == 0);
+  count = 9;
+  WANT(gixobj_fsck_findings(3, GIXOBJ_BLOB, BYTES(""), 0, out, 4, &count) == GIXOBJ_UNKNOWN_CODE);
+  WANT(gixobj_fsck_findings(GIXOBJ_SHA1, 5, BYTES(""), 0, out, 4, &count) == GIXOBJ_UNKNOWN_CODE);
+  WANT(gixobj_fsck_findings(GIXOBJ_SHA1, GIXOBJ_BLOB, BYTES(""), 2, out, 4, &count) == GIXOBJ_UNKNOWN_CODE);
+  WANT(count == 9 && is_finding(out[0], GIXOBJ_FSCK_BAD_TAG_NAME, 60, GIXOBJ_SEVERITY_INFO));
+  return 0;
+}
+
 static int fsck_codes(void) {
   gixobj_fsck_report report = {9, 9, 9};
   uint8_t out[24];
@@ -350,7 +379,7 @@ static int fsck_codes(void) {
 
 int main(void) {
   if (actors() || ids() || headers() || entries() || modes() || tokens() || tag_tokens() || named_headers() ||
-      buffers() || fsck() || fsck_codes() || edits() || lossy_trees() || missing_trees() || writes() || signatures())
+      buffers() || fsck() || findings() || fsck_codes() || edits() || lossy_trees() || missing_trees() || writes() || signatures())
     return 1;
   puts("ok");
   return 0;

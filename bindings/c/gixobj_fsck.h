@@ -81,6 +81,20 @@ typedef struct { uint64_t messages; uint32_t worst, is_accepted; } gixobj_fsck_r
 uint32_t gixobj_fsck(uint8_t hash, uint8_t kind, const uint8_t *bytes, size_t bytes_len, uint8_t strict,
                      gixobj_fsck_report *out);
 
+/* Writes the findings of git-fsck about an object at the beginning of out, in git's order: of `git fsck`, or if strict
+ * is 1 of `git fsck --strict`. A message about a link of a tree comes once for each link, and GITMODULES_SYMLINK once
+ * more for each backslash in its name before what NTFS takes for .gitmodules. *count is the number of findings, also
+ * if out has too few elements. Elements after them are unchanged.
+ * The offset is in the bytes of the object. That of a message about a link is its entry's; of BAD_TREE it is where
+ * reading ends, of DUPLICATE_ENTRIES the first entry that has the name of one before it, of TREE_NOT_SORTED the second
+ * of two neighbours; of another message about a tree, the first entry with the fault. In commits and tags it is that
+ * of the line, or of where a missing line was expected; of a zero byte its own; of UNTERMINATED_HEADER the end.
+ * DONE, OUT_OF_MEMORY (never of a blob; of a tree only if its bytes begin with an entry, or BAD_TREE is reported),
+ * UNKNOWN_CODE (as of gixobj_fsck), BUFFER_TOO_SHORT. A tree allocates, and so do findings. */
+typedef struct { size_t offset; uint32_t message, severity; } gixobj_fsck_finding;
+uint32_t gixobj_fsck_findings(uint8_t hash, uint8_t kind, const uint8_t *bytes, size_t bytes_len, uint8_t strict,
+                              gixobj_fsck_finding *out, size_t out_size, size_t *count);
+
 /* Writes the name of a message, as `git fsck` prints it: at most 23 bytes, and no zero byte. *out_len is its length,
  * also if the buffer is too short. DONE, UNKNOWN_CODE, BUFFER_TOO_SHORT. Allocates nothing. */
 uint32_t gixobj_fsck_message_name(uint8_t message, uint8_t *out, size_t out_size, size_t *out_len);

@@ -16,13 +16,13 @@ from . import _library as raw
 from ._library import Error, InvalidSizeError, LossyTreeError, MalformedError, MissingLibraryError, MissingTreeError
 from ._library import NotEncodableError, ScriptError, UnknownCodeError, UnknownKindError
 from ._library import code, digest, error_of, lib, load, plain
-from ._messages import Finding, Message, Report, Severity, report_of
+from ._messages import Finding, Message, Report, Severity, finding_of, report_of
 
 __all__ = [
     "LIBRARIES", "Actor", "Entry", "Error", "Finding", "Hash", "InvalidSizeError", "Kind", "LossyTreeError",
     "MalformedError", "Message", "MissingLibraryError", "MissingTreeError", "NotEncodableError", "Report", "ScriptError",
     "Severity", "UnknownCodeError", "UnknownKindError", "actor", "check", "commit_header", "commit_signature", "edit",
-    "entries", "fsck", "loose_header", "message", "object_id", "reencode", "summary", "tag_signature", "tag_tokens",
+    "entries", "fsck", "fsck_report", "loose_header", "message", "object_id", "reencode", "summary", "tag_signature", "tag_tokens",
     "tokens", "trailers", "unfold", "verify",
 ]
 
@@ -95,15 +95,29 @@ def check(kind: int, data: bytes, hash: int = Hash.SHA1) -> bool:
     return status == raw.DONE
 
 
-def fsck(kind: int, data: bytes, strict: bool = False, hash: int = Hash.SHA1) -> Report:
-    """Git's messages about an object, as `git fsck` reports them, or with strict `git fsck --strict`. There are none
-    about a blob. The parser of git runs before its fsck, and rejects some malformed commits and tags without a message.
-    Needs gixobj_c_fsck."""
+def fsck(kind: int, data: bytes, strict: bool = False, hash: int = Hash.SHA1) -> list[Finding]:
+    """Git's findings about an object, in the order in which `git fsck` reports them, or with strict `git fsck --strict`.
+    There are none about a blob. The parser of git runs before its fsck, and rejects some malformed commits and tags
+    without a message. Needs gixobj_c_fsck."""
+    hash, kind, count, size = code(hash), code(kind), c_size_t(0), 4
+    while True:
+        out = (raw.FsckFinding * size)()
+        status = lib.gixobj_fsck_findings(hash, kind, plain(data), len(data), bool(strict), out, size, byref(count))
+        if status == raw.BUFFER_TOO_SHORT:
+            size = count.value
+        elif status:
+            raise error_of(status)
+        else:
+            return [finding_of(it) for it in out[: count.value]]
+
+
+def fsck_report(kind: int, data: bytes, strict: bool = False, hash: int = Hash.SHA1) -> Report:
+    """The messages of `fsck`, and whether git accepts the object. Needs gixobj_c_fsck."""
     out = raw.FsckReport()
     status = lib.gixobj_fsck(code(hash), code(kind), plain(data), len(data), bool(strict), byref(out))
     if status:
         raise error_of(status)
-    return report_of(out, strict)
+    return report_of(out)
 
 
 def loose_header(data: bytes) -> tuple[Kind, int, int]:

@@ -56,6 +56,10 @@ class FsckReport(Structure):
     _fields_ = [("messages", c_uint64), ("worst", c_uint32), ("is_accepted", c_uint32)]
 
 
+class FsckFinding(Structure):
+    _fields_ = [("offset", c_size_t), ("message", c_uint32), ("severity", c_uint32)]
+
+
 class Error(Exception):
     """A call failed."""
 
@@ -149,6 +153,7 @@ FUNCTIONS = {
     "gixobj_check": [c_uint8, c_uint8, *_BYTES],
     "gixobj_reencode": [c_uint8, c_uint8, *_BYTES, *_BUFFER, _LEN],
     "gixobj_fsck": [c_uint8, c_uint8, *_BYTES, c_uint8, POINTER(FsckReport)],
+    "gixobj_fsck_findings": [c_uint8, c_uint8, *_BYTES, c_uint8, POINTER(FsckFinding), c_size_t, _LEN],
     "gixobj_fsck_message_name": [c_uint8, *_BUFFER, _LEN],
     "gixobj_fsck_severity": [c_uint8, c_uint8, POINTER(c_uint32)],
     "gixobj_loose_header": [*_BYTES, POINTER(LooseHeader)],
@@ -170,7 +175,7 @@ FUNCTIONS = {
 # static libraries that may be missing, each with its calls
 OPTIONAL = dict(
     gixobj_c_reencode=("gixobj_reencode",),
-    gixobj_c_fsck=("gixobj_fsck", "gixobj_fsck_message_name", "gixobj_fsck_severity"),
+    gixobj_c_fsck=("gixobj_fsck", "gixobj_fsck_findings", "gixobj_fsck_message_name", "gixobj_fsck_severity"),
     gixobj_c_edit=("gixobj_edit",),
 )
 

@@ -8,9 +8,8 @@ import sys
 import time
 from typing import Iterable, Optional
 
-from . import Hash, Kind, MalformedError, MissingLibraryError, NotEncodableError
-from . import check, entries, fsck, reencode, tokens, verify
-from . import Report as Messages
+from . import Finding, Hash, Kind, MalformedError, MissingLibraryError, NotEncodableError
+from . import check, entries, fsck, fsck_report, reencode, tokens, verify
 from ._git import Object, Repository
 from ._library import load
 
@@ -52,11 +51,17 @@ def faults_of(it: Object, hash: Hash) -> list[str]:
     return faults(it.id, KINDS[it.kind], it.content, hash) if it.kind in KINDS else ["unknown kind"]
 
 
-def messages_of(it: Object, strict: bool, hash: Hash) -> Optional[Messages]:
-    """Git's messages about what git read, or None without the library or the content."""
+# findings about an object, and whether git accepts it
+Answer = tuple[list[Finding], bool]
+
+
+def findings_of(it: Object, strict: bool, hash: Hash) -> Optional[Answer]:
+    """Git's findings about what git read, and whether git accepts it, or None without the library or the content."""
     if FSCK not in load()[1] or it.problem or it.kind not in KINDS:
         return None
-    return fsck(KINDS[it.kind], it.content, strict, hash)
+    arguments = KINDS[it.kind], it.content, strict, hash
+    report = fsck_report(*arguments)
+    return fsck(*arguments) if report.messages else [], report.accepted
 
 
 class Report:
@@ -70,12 +75,12 @@ class Report:
         self.size = self.faulty = self.rejected = 0
         self.shown = time.monotonic()
 
-    def add(self, it: Object, found: Iterable[str], messages: Optional[Messages]) -> None:
+    def add(self, it: Object, found: Iterable[str], answer: Optional[Answer]) -> None:
         self.kinds[it.kind or "unreadable"] += 1
         self.size += len(it.content)
         self.add_faults(it.kind, it.id, found)
-        if messages:
-            self.add_messages(it, messages)
+        if answer:
+            self.add_findings(it, *answer)
         if sys.stderr.isatty() and time.monotonic() - self.shown > 1:
             self.shown = time.monotonic()
             print(f"\r{sum(self.kinds.values())} objects", end="\r", file=sys.stderr)
@@ -87,9 +92,9 @@ class Report:
             print(f"{kind or 'object':6} {oid} here: {what}; git fsck: {fsck}")
 
 
-    def add_messages(self, it: Object, messages: Messages) -> None:
-        self.rejected += not messages.accepted
-        for finding in messages.findings:
+    def add_findings(self, it: Object, findings: list[Finding], accepted: bool) -> None:
+        self.rejected += not accepted
+        for finding in findings:
             self.lines[str(finding.severity)] += 1
             print(f"{finding.severity} in {it.kind} {it.id}: {finding.message}")
 
@@ -122,7 +127,7 @@ def audit(folder: str, strict: bool = False) -> int:
     report, ids = Report(repository.reports(strict)), repository.ids()
     start = time.monotonic()
     for it in repository.objects(ids):
-        report.add(it, faults_of(it, hash), messages_of(it, strict, hash))
+        report.add(it, faults_of(it, hash), findings_of(it, strict, hash))
     seconds = time.monotonic() - start
     missing = {oid for oid, found in report.reports.items() if "missing" in found}.difference(ids)
     for oid in sorted(missing):

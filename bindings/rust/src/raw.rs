@@ -76,6 +76,15 @@ pub struct FsckReport {
     pub is_accepted: u32,
 }
 
+#[cfg(feature = "fsck")]
+#[repr(C)]
+#[derive(Clone, Copy, Default)]
+pub struct FsckFinding {
+    pub offset: usize,
+    pub message: u32,
+    pub severity: u32,
+}
+
 unsafe extern "C" {
     pub fn gixobj_id(
         hash: u8,
@@ -112,6 +121,17 @@ unsafe extern "C" {
         len: usize,
         strict: u8,
         out: *mut FsckReport,
+    ) -> u32;
+    #[cfg(feature = "fsck")]
+    pub fn gixobj_fsck_findings(
+        hash: u8,
+        kind: u8,
+        bytes: *const u8,
+        len: usize,
+        strict: u8,
+        out: *mut FsckFinding,
+        size: usize,
+        count: *mut usize,
     ) -> u32;
     #[cfg(all(feature = "fsck", test))]
     pub fn gixobj_fsck_message_name(

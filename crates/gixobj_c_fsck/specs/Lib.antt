@@ -1,3 +1,4 @@
 pub mod Codes
+pub mod Findings
 pub mod Messages
 pub mod Reports

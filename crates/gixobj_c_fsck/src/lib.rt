@@ -4,5 +4,6 @@
 //! return nothing that is to be freed. Their statuses are those of [`gixobj_c_codes::codes`].
 #![tactic(auto)]
 
+mod findings;
 mod messages;
 mod reports;
