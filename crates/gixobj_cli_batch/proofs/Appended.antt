@@ -23,6 +23,15 @@ flat_map_take f xs i x lines more within is before added =
     let taken : take (i + 1) xs ≡ take i xs ++ x ∷ [] = take_more xs i x within ∙ ap (λ it. take i xs ++ it ∷ []) (sym is) in
     added ∙ ap (λ (list : List ℕ). list ++ f x) before ∙ sym (flat_map_snoc f (take i xs) x) ∙ ap (flat_map f) (sym taken)
 
+-- the lines of the items so far, after others, and that of the next
+pub appended_take : {X : Type 0} (f : X → List ℕ) (xs : List X) (i : ℕ) (default : X) (old lines more : List ℕ) → i < length xs
+    → lines ≡ old ++ flat_map f (take i xs) → more ≡ lines ++ f (get_or xs i default) → more ≡ old ++ flat_map f (take (i + 1) xs)
+appended_take f xs i default old lines more within so_far added =
+    let x = get_or xs i default in
+    let taken : take (i + 1) xs ≡ take i xs ++ x ∷ [] = take_more xs i default within in
+    added ∙ ap (λ (list : List ℕ). list ++ f x) so_far ∙ append_assoc old (flat_map f (take i xs)) (f x)
+    ∙ ap (λ (list : List ℕ). old ++ list) (sym (flat_map_snoc f (take i xs) x) ∙ ap (flat_map f) (sym taken))
+
 -- ---- paths
 
 pub more_path_bytes_snoc : (path : Path) (name : List ℕ) → more_path_bytes (path ++ name ∷ []) ≡ more_path_bytes path ++ 47 ∷ name

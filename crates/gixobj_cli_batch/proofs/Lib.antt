@@ -1,3 +1,3 @@
 mod Appended
-mod Findings
+mod Records
 mod Reported

@@ -1,5 +1,5 @@
 -- The commands that the arguments of the program name.
-use Rattle.std.specs.Prelude.{◌≡◌, ℕ, List, [], ◌∷◌, codes, ⊤}
+use Rattle.std.specs.Prelude.{◌≡◌, ℕ, Bool, true, false, List, [], ◌∷◌, codes, ⊤}
 use Rattle.gix_object.specs.Hash.{DecodesToId, IsIdHex}
 use Rattle.gix_object.specs.hash.hash.object_id.ObjectId.{ObjectId}
 use Rattle.gixobj_cli_batch.specs.declared.arguments.Command.{Command}
@@ -15,9 +15,14 @@ IsIdArgument hex id = IsIdHex hex × DecodesToId hex id
 abbrev pub NamesNoId : List ℕ → Type 0
 NamesNoId hex = (id : ObjectId) → ¬ IsIdArgument hex id
 
--- the arguments are `check`; or `log` or `ls` and an id; or `diff` and two ids
+-- the arguments of a check after its name
+abbrev pub strict_arguments : Bool → List (List ℕ)
+strict_arguments true = codes "--strict" ∷ []
+strict_arguments false = []
+
+-- the arguments are `check`, alone or with `--strict`; or `log` or `ls` and an id; or `diff` and two ids
 abbrev pub NamesCommand : List (List ℕ) → Command → Type 0
-NamesCommand arguments command.Check = arguments ≡ codes "check" ∷ []
+NamesCommand arguments (command.Check strict) = arguments ≡ codes "check" ∷ strict_arguments strict
 NamesCommand arguments (command.Log id) = (hex : List ℕ) × (arguments ≡ codes "log" ∷ hex ∷ []) × IsIdArgument hex id
 NamesCommand arguments (command.List id) = (hex : List ℕ) × (arguments ≡ codes "ls" ∷ hex ∷ []) × IsIdArgument hex id
 NamesCommand arguments (command.Diff from to) = (first second : List ℕ)

@@ -1,14 +1,15 @@
 -- The lines of a check, and the numbers of objects at its end.
-use Rattle.std.specs.Prelude.{◌≡◌, ◌<◌, ◌+◌, ◌-◌, ℕ, List, [], ◌∷◌, ◌++◌, Option, None, Some, codes, decimal, length}
-use Rattle.std.specs.List.{AllZip, flat_map, sum_by}
+use Rattle.std.specs.Prelude.{◌≡◌, ◌<◌, ◌+◌, ◌-◌, ℕ, Bool, List, [], ◌∷◌, ◌++◌, Option, None, Some, codes, decimal, if◌then◌else◌, length}
+use Rattle.std.specs.List.{AllZip, flat_map, list_any, sum_by}
 use Rattle.gix_object.specs.Bytes.{newline}
 use Rattle.gix_object.specs.Hash.{encode_id_hex}
 use Rattle.gix_object.specs.hash.hash.object_id.ObjectId.{ObjectId}
-use Rattle.gixobj_cli_batch.specs.Checks.{IsFinding}
+use Rattle.gixobj_cli_batch.specs.Checks.{IsChecked}
+use Rattle.gixobj_cli_batch.specs.FindingLines.{finding_line, is_error}
 use Rattle.gixobj_cli_batch.specs.declared.checked.BytesFault.{BytesFault}
 use Rattle.gixobj_cli_batch.specs.declared.checked.BytesFault.TheVariants as bytes
-use Rattle.gixobj_cli_batch.specs.declared.checked.Finding.{Finding}
-use Rattle.gixobj_cli_batch.specs.declared.checked.Finding.TheVariants as finding
+use Rattle.gixobj_cli_batch.specs.declared.checked.Checked.{Checked}
+use Rattle.gixobj_cli_batch.specs.declared.checked.Checked.TheVariants as checked
 use Rattle.gixobj_cli_batch.specs.declared.fault.Fault.{Fault}
 use Rattle.gixobj_cli_batch.specs.declared.fault.Fault.TheVariants as program
 use Rattle.gixobj_records.specs.Records.{RecordView}
@@ -28,32 +29,34 @@ fault_line id None = []
 fault_line id (Some bytes.Malformed) = id_line id (codes " is malformed")
 fault_line id (Some bytes.OtherBytes) = id_line id (codes " encodes to other bytes")
 
--- the lines of a finding: none for an object without a fault
-abbrev pub finding_lines : Finding → List ℕ
-finding_lines (finding.Missing id) = id_line id (codes " is missing")
-finding_lines (finding.Checked id other fault) = other_line id other ++ fault_line id fault
+-- the lines of a record: those of its faults, and then one for each finding of git, in git's order
+abbrev pub checked_lines : Bool → Checked → List ℕ
+checked_lines strict (checked.Missing id) = id_line id (codes " is missing")
+checked_lines strict (checked.Object id kind other fault findings) = other_line id other ++ fault_line id fault
+    ++ flat_map (finding_line strict id kind) findings.items
 
 -- ---- numbers
 
--- one for a faulty object
-abbrev pub faulty_count : Finding → ℕ
-faulty_count (finding.Missing id) = 0
-faulty_count (finding.Checked id (Some other) fault) = 1
-faulty_count (finding.Checked id None (Some fault)) = 1
-faulty_count (finding.Checked id None None) = 0
+-- one for a faulty object: its bytes have another id or a fault, or a finding counts as an error
+abbrev pub faulty_count : Bool → Checked → ℕ
+faulty_count strict (checked.Missing id) = 0
+faulty_count strict (checked.Object id kind (Some other) fault findings) = 1
+faulty_count strict (checked.Object id kind None (Some fault) findings) = 1
+faulty_count strict (checked.Object id kind None None findings) =
+    if list_any (is_error strict) findings.items then 1 else 0
 
 -- one for a missing object
-abbrev pub missing_count : Finding → ℕ
-missing_count (finding.Missing id) = 1
-missing_count (finding.Checked id other fault) = 0
+abbrev pub missing_count : Checked → ℕ
+missing_count (checked.Missing id) = 1
+missing_count (checked.Object id kind other fault findings) = 0
 
 -- the number of faulty objects
-abbrev pub faulty_total : List Finding → ℕ
-faulty_total findings = sum_by faulty_count findings
+abbrev pub faulty_total : Bool → List Checked → ℕ
+faulty_total strict checks = sum_by (faulty_count strict) checks
 
 -- the number of missing objects
-abbrev pub missing_total : List Finding → ℕ
-missing_total findings = sum_by missing_count findings
+abbrev pub missing_total : List Checked → ℕ
+missing_total checks = sum_by missing_count checks
 
 -- the line with the numbers of objects, of faulty and of missing ones
 abbrev pub count_line : ℕ → ℕ → ℕ → List ℕ
@@ -65,11 +68,12 @@ abbrev pub IsFaultOfCounts : ℕ → ℕ → Option Fault → Type 0
 IsFaultOfCounts faulty lacking None = faulty + lacking ≡ 0
 IsFaultOfCounts faulty lacking (Some cause) = (cause ≡ program.Faulty) × (0 < faulty + lacking)
 
--- the lines of the check of these records, and the error after them: those of the finding of each record, in order, and
--- the line with the numbers
-pub record PrintsCheck (records : List RecordView) (lines : List ℕ) (fault : Option Fault) : Type 0 where
-  pub findings : List Finding
-  pub found : AllZip IsFinding records findings
-  pub printed : lines ≡ flat_map finding_lines findings
-      ++ count_line (length records - missing_total findings) (faulty_total findings) (missing_total findings)
-  pub ended : IsFaultOfCounts (faulty_total findings) (missing_total findings) fault
+-- the lines of the check of these records, and the error after them: those of each record, in order, and the line with
+-- the numbers
+pub record PrintsCheck (strict : Bool) (records : List RecordView) (lines : List ℕ) (fault : Option Fault)
+    : Type 0 where
+  pub checks : List Checked
+  pub found : AllZip (IsChecked strict) records checks
+  pub printed : lines ≡ flat_map (checked_lines strict) checks
+      ++ count_line (length records - missing_total checks) (faulty_total strict checks) (missing_total checks)
+  pub ended : IsFaultOfCounts (faulty_total strict checks) (missing_total checks) fault

@@ -71,7 +71,7 @@ abbrev pub Prints : Command → List RecordView → List ℕ → Option Fault �
 Prints (command.Log id) records lines fault = PrintsLog (objects_of records) id lines fault
 Prints (command.List id) records lines fault = PrintsFiles (objects_of records) id lines fault
 Prints (command.Diff from to) records lines fault = PrintsChanges (objects_of records) from to lines fault
-Prints command.Check records lines fault = PrintsCheck records lines fault
+Prints (command.Check strict) records lines fault = PrintsCheck strict records lines fault
 
 -- the input is the concatenation of records, and these are the lines of a command on them, and the error after them
 pub record Reports (named : Command) (input lines : List ℕ) (fault : Option Fault) : Type 0 where
@@ -109,7 +109,7 @@ abbrev pub IsCommandError : Command → List RecordView → Fault → Type 0
 IsCommandError (command.Log id) records fault = fault ≡ program.OutOfMemory
 IsCommandError (command.List id) records fault = IsFilesError (objects_of records) id fault
 IsCommandError (command.Diff from to) records fault = IsDiffError (objects_of records) from to fault
-IsCommandError command.Check records fault = fault ≡ program.OutOfMemory
+IsCommandError (command.Check strict) records fault = fault ≡ program.OutOfMemory
 
 -- the error of a command on this input, without lines: the input isn't a sequence of records; or that on its records
 abbrev pub IsReportError : Command → List ℕ → Fault → Type 0

@@ -1,5 +1,5 @@
 //! The command that the arguments of the program name.
-ghost use Rattle.std.specs.Prelude.{[], ◌∷◌, IfErr, IfNone, IfSome, map};
+ghost use Rattle.std.specs.Prelude.{[], ◌∷◌, ◌≢◌, IfErr, IfNone, IfSome, codes, map};
 ghost use Rattle.std.specs.String.{string_bytes};
 ghost use Rattle.gixobj_cli_batch.specs.Arguments.{IsArgumentsError, IsIdArgument, NamesCommand, NamesNoCommand, NamesNoId};
 
@@ -17,8 +17,8 @@ pub(crate) enum Command {
     List(ObjectId),
     /// The changes from a commit or a tree to another.
     Diff(ObjectId, ObjectId),
-    /// The faults of the objects.
-    Check,
+    /// The faults of the objects, and git's findings about them, in a check that is strict or not.
+    Check(bool),
 }
 
 /// Returns the arguments of the process, those after its name. The list of arguments allocates.
@@ -42,7 +42,7 @@ pub(crate) fn command_of(arguments: &[String]) -> Option<Command>
 {
     match arguments {
         [name] => command_alone(name),
-        [name, id] => command_of_id(name, id),
+        [name, argument] => command_of_pair(name, argument),
         [name, from, to] => command_of_ids(name, from, to),
         _ => None,
     }
@@ -54,13 +54,40 @@ fn command_alone(name: &String) -> Option<Command>
     ensures none { IfNone result (NamesNoCommand (string_bytes name.now ∷ [])) }
 {
     if name.as_str() == "check" {
-        return Some(Command::Check);
+        return Some(Command::Check(false));
     }
     None
 }
 
-/// Returns the command that a name and an id name, or `None`.
+/// Returns the command that a name and another argument name, or `None`.
+fn command_of_pair(name: &String, argument: &String) -> Option<Command>
+    ensures found { IfSome result
+        (NamesCommand (string_bytes name.now ∷ string_bytes argument.now ∷ [])) }
+    ensures none { IfNone result
+        (NamesNoCommand (string_bytes name.now ∷ string_bytes argument.now ∷ [])) }
+{
+    if name.as_str() == "check" {
+        return strict_check(argument);
+    }
+    command_of_id(name, argument)
+}
+
+/// Returns the command `check` with this argument, or `None`.
+fn strict_check(argument: &String) -> Option<Command>
+    ensures found { IfSome result
+        (NamesCommand (codes "check" ∷ string_bytes argument.now ∷ [])) }
+    ensures none { IfNone result
+        (NamesNoCommand (codes "check" ∷ string_bytes argument.now ∷ [])) }
+{
+    if argument.as_str() == "--strict" {
+        return Some(Command::Check(true));
+    }
+    None
+}
+
+/// Returns the command that a name and an id name, or `None`. The name isn't `check`.
 fn command_of_id(name: &String, id: &String) -> Option<Command>
+    requires { string_bytes name.now ≢ codes "check" }
     ensures found { IfSome result
         (NamesCommand (string_bytes name.now ∷ string_bytes id.now ∷ [])) }
     ensures none { IfNone result

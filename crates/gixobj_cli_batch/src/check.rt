@@ -1,24 +1,24 @@
 //! The command `check`.
-ghost use Rattle.std.specs.Prelude.{◌≡◌, ◌≤◌, ◌++◌, ◌∷◌, [], IfErr, IfOk, OnOk, decimal, map};
+ghost use Rattle.std.specs.Prelude.{◌≡◌, ◌≤◌, ◌++◌, ◌∷◌, [], IfErr, IfOk, OnOk, map};
 ghost use Rattle.gix_object.specs.Bytes.{newline};
 ghost use Rattle.gix_object.specs.Hash.{encode_id_hex};
-ghost use Rattle.gixobj_cli_batch.specs.CheckLines.{IsFaultOfCounts, PrintsCheck, count_line, fault_line, faulty_count, finding_lines, missing_count, other_line};
+ghost use Rattle.gixobj_cli_batch.specs.CheckLines.{IsFaultOfCounts, PrintsCheck, checked_lines, count_line, fault_line, faulty_count, missing_count, other_line};
 ghost use Rattle.gixobj_cli_batch.specs.declared.fault.Fault.TheVariants as program;
 ghost use Rattle.gixobj_records.specs.Records.{record_view};
 
-use crate::checked::{BytesFault, Finding, finding_of};
+use crate::checked::{BytesFault, Checked, check_record};
 use crate::fault::Fault;
-use crate::lines::push_id;
+use crate::findings::{has_error, push_findings};
+use crate::lines::{push_id, push_number};
 use crate::report::Report;
 use gix_object::hash::ObjectId;
 use gixobj_records::Record;
-use itoa::Buffer;
 use std::alloc::{AllocError, Global};
 
 /// Checks each object: its id has to be that of its bytes, and its bytes have to be those that its object encodes to.
-/// Prints a line for each fault and each missing object, and one with the numbers of objects.
-pub(crate) fn check(alloc: Global, records: &[Record<'_>]) -> Result<Report, Fault>
-    ensures printed { IfOk result (λ report. PrintsCheck (map record_view records.now)
+/// Prints a line for each fault, each finding of git and each missing object, and one with the numbers of objects.
+pub(crate) fn check(alloc: Global, strict: bool, records: &[Record<'_>]) -> Result<Report, Fault>
+    ensures printed { IfOk result (λ report. PrintsCheck strict (map record_view records.now)
         report.lines.items report.fault) }
     ensures error { IfErr result (λ fault. fault ≡ program.OutOfMemory) }
 {
@@ -26,10 +26,10 @@ pub(crate) fn check(alloc: Global, records: &[Record<'_>]) -> Result<Report, Fau
     let mut buffer = Vec::new(alloc);
     let (mut faulty, mut missing) = (0usize, 0usize);
     for it in records {
-        let finding = finding_of(alloc, &mut buffer, *it)?;
-        push_finding(&mut lines, finding)?;
-        faulty += count_faulty(finding);
-        missing += count_missing(finding);
+        let checked = check_record(alloc, &mut buffer, strict, *it)?;
+        push_checked(&mut lines, strict, &checked)?;
+        faulty += count_faulty(strict, &checked);
+        missing += count_missing(&checked);
     }
     push_counts(&mut lines, records.len() - missing, faulty, missing)?;
     let fault = fault_of(faulty, missing);
@@ -37,26 +37,27 @@ pub(crate) fn check(alloc: Global, records: &[Record<'_>]) -> Result<Report, Fau
 }
 
 /// One for a faulty object, else zero.
-fn count_faulty(finding: Finding) -> usize
-    ensures counted { result ≡ faulty_count finding }
+fn count_faulty(strict: bool, checked: &Checked) -> usize
+    ensures counted { result ≡ faulty_count strict checked.now }
     ensures bounded { result ≤ 1 }
 {
-    match finding {
-        Finding::Missing { .. } => 0,
-        Finding::Checked { other: Some(_), .. } => 1,
-        Finding::Checked { fault: Some(_), .. } => 1,
-        Finding::Checked { .. } => 0,
+    match checked {
+        Checked::Missing { .. } => 0,
+        Checked::Object { other: Some(_), .. } => 1,
+        Checked::Object { fault: Some(_), .. } => 1,
+        Checked::Object { findings, .. } if has_error(strict, findings) => 1,
+        Checked::Object { .. } => 0,
     }
 }
 
 /// One for a missing object, else zero.
-fn count_missing(finding: Finding) -> usize
-    ensures counted { result ≡ missing_count finding }
+fn count_missing(checked: &Checked) -> usize
+    ensures counted { result ≡ missing_count checked.now }
     ensures bounded { result ≤ 1 }
 {
-    match finding {
-        Finding::Missing { .. } => 1,
-        Finding::Checked { .. } => 0,
+    match checked {
+        Checked::Missing { .. } => 1,
+        Checked::Object { .. } => 0,
     }
 }
 
@@ -73,15 +74,22 @@ fn fault_of(faulty: usize, missing: usize) -> Option<Fault>
     None
 }
 
-/// Appends the lines of a finding: none for an object without a fault.
-fn push_finding(lines: &mut Vec<u8>, finding: Finding) -> Result<(), AllocError>
-    ensures { OnOk result (lines.new.items ≡ lines.old.items ++ finding_lines finding) }
+/// Appends the lines of a record: none for an object without a fault or a finding.
+fn push_checked(lines: &mut Vec<u8>, strict: bool, checked: &Checked) -> Result<(), AllocError>
+    ensures { OnOk result (lines.new.items ≡ lines.old.items ++ checked_lines strict checked.now) }
 {
-    match finding {
-        Finding::Missing { id } => push_line(lines, id, b" is missing"),
-        Finding::Checked { id, other, fault } => {
-            push_other(lines, id, other)?;
-            push_fault(lines, id, fault)
+    match checked {
+        Checked::Missing { id } => push_line(lines, *id, b" is missing"),
+        Checked::Object {
+            id,
+            kind,
+            other,
+            fault,
+            findings,
+        } => {
+            push_other(lines, *id, *other)?;
+            push_fault(lines, *id, *fault)?;
+            push_findings(lines, strict, *id, *kind, findings)
         }
     }
 }
@@ -136,17 +144,8 @@ fn push_counts(
     ensures { OnOk result (lines.new.items
         ≡ lines.old.items ++ count_line objects faulty missing) }
 {
-    push_count(lines, b"checked ", objects)?;
-    push_count(lines, b" objects: ", faulty)?;
-    push_count(lines, b" faulty, ", missing)?;
+    push_number(lines, b"checked ", objects)?;
+    push_number(lines, b" objects: ", faulty)?;
+    push_number(lines, b" faulty, ", missing)?;
     lines.extend_from_slice(b" missing\n")
-}
-
-/// Appends bytes, and a number in decimal.
-fn push_count(lines: &mut Vec<u8>, before: &[u8], number: usize) -> Result<(), AllocError>
-    ensures { OnOk result (lines.new.items ≡ lines.old.items ++ (before.now ++ decimal number)) }
-{
-    let mut digits = Buffer::new();
-    lines.extend_from_slice(before)?;
-    lines.extend_from_slice(digits.format(number).as_bytes())
 }

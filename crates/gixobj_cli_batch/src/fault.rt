@@ -15,7 +15,7 @@ use std::io;
 #[derive(Debug, Drop, thiserror::Error)]
 pub(crate) enum Fault {
     /// The arguments name no command.
-    #[error("usage: gixobj_cli_batch log ID | ls ID | diff ID ID | check")]
+    #[error("usage: gixobj_cli_batch log ID | ls ID | diff ID ID | check [--strict]")]
     Usage,
     /// The input isn't a sequence of records.
     #[error("{0}")]

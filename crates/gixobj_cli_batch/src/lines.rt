@@ -1,5 +1,5 @@
 //! The parts of lines.
-ghost use Rattle.std.specs.Prelude.{◌≡◌, ◌++◌, OnOk};
+ghost use Rattle.std.specs.Prelude.{◌≡◌, ◌++◌, OnOk, decimal};
 ghost use Rattle.gix_object.specs.Hash.{encode_id_hex};
 ghost use Rattle.gix_object.specs.Calls.{names_of};
 ghost use Rattle.gix_object.specs.Mode.{mode_bits};
@@ -8,6 +8,7 @@ ghost use Rattle.gixobj_cli_batch.specs.Lines.{more_path_bytes, path_bytes, prin
 use bstr::BString;
 use gix_object::hash::ObjectId;
 use gix_object::tree::EntryMode;
+use itoa::Buffer;
 use std::alloc::AllocError;
 
 /// Appends an id in hex.
@@ -16,6 +17,19 @@ pub(crate) fn push_id(lines: &mut Vec<u8>, id: ObjectId) -> Result<(), AllocErro
 {
     let mut hex = [0u8; 64];
     lines.extend_from_slice(id.hex_to_buf(&mut hex).as_bytes())
+}
+
+/// Appends bytes, and a number in decimal.
+pub(crate) fn push_number(
+    lines: &mut Vec<u8>,
+    before: &[u8],
+    number: usize,
+) -> Result<(), AllocError>
+    ensures { OnOk result (lines.new.items ≡ lines.old.items ++ (before.now ++ decimal number)) }
+{
+    let mut digits = Buffer::new();
+    lines.extend_from_slice(before)?;
+    lines.extend_from_slice(digits.format(number).as_bytes())
 }
 
 /// Appends the mode of the kind of a mode.

@@ -4,7 +4,8 @@
 //! - `log ID`: a line `<id> <author> <<email>> <title>` for a commit and each ancestor by first parents;
 //! - `ls ID`: a line `<mode> <kind> <id>` for each file of a commit or a tree, with a tab and its path;
 //! - `diff ID ID`: a line for each change between two, as `git diff-tree -r` prints it;
-//! - `check`: a line for each fault of an object, and a line with their numbers.
+//! - `check`, `check --strict`: a line for each fault of an object, and one for each message that `git fsck` has about
+//!   it, and one with the numbers of objects.
 //!
 //! Paths are printed unchanged: none is quoted.
 #![tactic(auto)]
@@ -12,10 +13,12 @@
 mod arguments;
 mod check;
 mod checked;
+mod descriptions;
 mod differences;
 mod engine;
 mod fault;
 mod files;
+mod findings;
 mod history;
 mod input;
 mod lines;

@@ -51,6 +51,6 @@ fn report_on(alloc: Global, command: Command, records: &[Record<'_>]) -> Result<
             let store = store_of(alloc, records)?;
             list_changes(alloc, &store, from, to)
         }
-        Command::Check => check(alloc, records),
+        Command::Check(strict) => check(alloc, strict, records),
     }
 }

@@ -1,0 +1,58 @@
+//! What the messages of git mean.
+ghost use Rattle.std.specs.Prelude.{◌≡◌};
+ghost use Rattle.gixobj_cli_batch.specs.Descriptions.{message_description};
+
+use gixobj_fsck_messages::Message;
+
+/// Returns what a message means. Allocates nothing.
+pub(crate) fn message_description(message: Message) -> &'static str
+    ensures { result.now ≡ message_description message }
+{
+    match message {
+        Message::GitmodulesSymlink => "a link is named .gitmodules",
+        Message::GitattributesSymlink => "a link is named .gitattributes",
+        Message::GitignoreSymlink => "a link is named .gitignore",
+        Message::MailmapSymlink => "a link is named .mailmap",
+        Message::BadTree => "the bytes are no entries",
+        Message::NullSha1 => "an id is null",
+        Message::FullPathname => "a name has a slash",
+        Message::EmptyName => "a name is empty",
+        Message::HasDot => "a name is .",
+        Message::HasDotdot => "a name is ..",
+        Message::HasDotgit => "a name is .git on some file system",
+        Message::ZeroPaddedFilemode => "a mode begins with 0",
+        Message::BadFilemode => "a mode is unknown",
+        Message::DuplicateEntries => "two entries have one name",
+        Message::TreeNotSorted => "the entries are unsorted",
+        Message::NulInHeader => "the header has a zero byte",
+        Message::UnterminatedHeader => "the header has no end",
+        Message::MissingTree => "no tree comes first",
+        Message::BadTreeSha1 => "the tree is no id",
+        Message::BadParentSha1 => "a parent is no id",
+        Message::MissingAuthor => "no author comes",
+        Message::MultipleAuthors => "several authors come",
+        Message::MissingCommitter => "no committer comes",
+        Message::NulInCommit => "the commit has a zero byte",
+        Message::MissingObject => "no object comes first",
+        Message::BadObjectSha1 => "the object is no id",
+        Message::MissingTypeEntry => "no type comes",
+        Message::MissingType => "the type has no end",
+        Message::BadType => "the type is unknown",
+        Message::MissingTagEntry => "no name comes",
+        Message::MissingTag => "the name has no end",
+        Message::BadTagName => "the name makes no reference name",
+        Message::MissingTaggerEntry => "no tagger comes",
+        Message::MissingNameBeforeEmail => "an actor has no name",
+        Message::BadName => "the name of an actor is invalid",
+        Message::MissingEmail => "an actor has no email",
+        Message::MissingSpaceBeforeEmail => "no space precedes the email of an actor",
+        Message::BadEmail => "the email of an actor is invalid",
+        Message::MissingSpaceBeforeDate => "no space precedes the date of an actor",
+        Message::ZeroPaddedDate => "the date of an actor begins with 0",
+        Message::BadDateOverflow => "the date of an actor is too large",
+        Message::BadDate => "the date of an actor is invalid",
+        Message::BadTimezone => "the time zone of an actor is invalid",
+        Message::ExtraHeaderEntry => "another header comes",
+        Message::UnknownType => "the kind is unknown",
+    }
+}
