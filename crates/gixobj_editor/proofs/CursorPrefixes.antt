@@ -1,15 +1,20 @@
--- After each edit by a cursor the directory at its prefix is still open; the proofs of the cursor's `try_` edits use
--- it.
-use Rattle.std.proofs.Common.{◌≡◌, ◌≢◌, ◌∙◌, ℕ, List, [], ◌∷◌, ◌++◌, Some, None, Result, Ok, Err, ap, refl, subst, sym}
-use Rattle.std.specs.Prelude.{IfErr, OnOk}
+-- After each edit by a cursor the directory at its prefix is still open, and its names are valid; the proofs of the
+-- cursor's `try_` edits use it.
+use Rattle.std.proofs.Common.{◌≡◌, ◌≢◌, ◌∙◌, inl, inr, ℕ, List, [], ◌∷◌, ◌++◌, Some, None, Result, Ok, Err, ap, refl, subst, sym}
+use Rattle.std.specs.Prelude.{IfErr, OnOk, reverse}
+use Rattle.std.specs.List.{AllByRecursion}
+use Rattle.std.proofs.lemmas.List.{reverse-reverse}
+use Rattle.std.proofs.lemmas.List.Elements.{All-append, All-cons, All-nil}
+use mathlib.Core.List.{reverse-cons}
+use Rattle.gixobj_tree.specs.WellFormed.{IsEntryName}
+use Rattle.gixobj_editor_open.specs.Paths.{AreNames}
 use Rattle.gixobj_store.specs.Stores.{Objects, StoreModel}
 use Rattle.gixobj_editor_lookups.specs.Openings.{AreTreesOf}
 use Rattle.gixobj_editor_lookups.proofs.NamedTrees.{trees_of_objects_exist}
 use Rattle.gixobj_editor_files.specs.Edits.{Opens}
-use Rattle.gixobj_editor_files.specs.Files.{Path, Trees}
-use Rattle.gixobj_editor_files.specs.Opening.{Dirs, IsOpened}
-use Rattle.gixobj_editor_files.specs.State.{EditorFiles, State, open_bases, open_dirs}
-use Rattle.gixobj_editor_files.proofs.EditedFiles.{same_files_refl}
+use Rattle.gixobj_editor_files.specs.Files.{ContainsEntry, Path, Trees}
+use Rattle.gixobj_editor_files.specs.Opening.{Dirs, HasAt, IsOpened}
+use Rattle.gixobj_editor_files.specs.State.{State, open_dirs}
 use Rattle.gixobj_editor_files.proofs.OpenPrefixes.{removed_dirs_keep_prefix, upserted_dirs_keep_prefix}
 use Rattle.gixobj_editor_files.proofs.StillOpenedOpenings.{opens_keeps_open_lists}
 use Rattle.gixobj_hash.specs.Hash.{null_id}
@@ -17,13 +22,9 @@ use Rattle.gixobj_hash.specs.declared.hash.object_id.ObjectId.{ObjectId}
 use Rattle.gixobj_tree_entries.specs.Entries.{EntryView}
 use Rattle.gixobj_editor_lookups.specs.EditNames.{from_root, directory_of}
 use Rattle.gixobj_editor.specs.Removals.{IsRemovedUpTo}
-use Rattle.gixobj_editor_files.specs.Bases.{opened_bases}
-use Rattle.gixobj_editor_lookups.specs.declared.opening.NotLookedUp.TheVariants as not_looked_up
 use Rattle.gixobj_editor.specs.Upserts.{IsUpserted}
-use Rattle.gixobj_editor_lookups.specs.FailedOpenings.{IsLookupError}
 use Rattle.gixobj_editor.specs.FailedEdits.{IsAfterFailedEdit}
 use Rattle.gixobj_editor_lookups.specs.declared.error.Error.{Error}
-use Rattle.gixobj_editor_lookups.proofs.InPart.{none_in_part}
 
 -- if each open directory is still open, this one is
 open_of_unchanged_at : (old new : Dirs) (at : Path) → ((entries : List EntryView) → old at ≡ Some entries → new at ≡ Some entries) → old at ≢ None
@@ -92,17 +93,35 @@ known_of_either (Ok it) objects Known Accepted Refused ok err accepted rejected 
 known_of_either (Err error) objects Known Accepted Refused ok err accepted rejected = let named = trees_of_objects_exist objects in
     rejected error named.0 (err named.0 named.1)
 
--- an edit that does nothing
-pub edit_failure_unchanged : {S : Type 0} (model : StoreModel S) (trees : Trees) (old : State S) (path : Path) (failure : Error) → (¬ IsLookupError failure)
-    → IsOpened (open_dirs old) → ((at : Path) → open_bases old at ≡ opened_bases (open_dirs old) (open_dirs old) (open_bases old) at)
-    → IsAfterFailedEdit model trees old path failure old
-edit_failure_unchanged model trees old path failure other all idle = record {
-  not_looked_up = not_looked_up.Opened;
-  opening = none_in_part (model.objects old.store) (model.may_fail old.store) trees path (open_dirs old) old.lookups failure other;
-  bases = idle;
-  stays = λ at entries is. is;
-  rest = refl;
-  is_opened = all;
-  files = λ T n agrees. same_files_refl (EditorFiles T n old);
-  has_bases = λ T agrees has. has;
-}
+-- the names of the path of an open directory are valid
+valid_of_entry : (es : List EntryView) (e : EntryView) → AllByRecursion (λ x. IsEntryName x.name) es → ContainsEntry es e → IsEntryName e.name
+valid_of_entry [] e all has = absurd has
+valid_of_entry (x ∷ es) e all (inl same) = subst (λ (y : EntryView). IsEntryName y.name) same all.0
+valid_of_entry (x ∷ es) e all (inr has) = valid_of_entry es e all.1 has
+
+module _ (dirs : Dirs) (all : IsOpened dirs) where
+  valid_at : (path : Path) (e : EntryView) → HasAt (dirs path) e → IsEntryName e.name
+  valid_at path e has =
+      elim (dirs path) as (λ o. dirs path ≡ o → HasAt o e → IsEntryName e.name) [
+        | None ↦ λ is none. absurd none
+        | Some entries ↦ λ is some. valid_of_entry entries e (all.well_formed path entries is).names some
+      ] refl has
+
+  open_at : (path : Path) (e : EntryView) → HasAt (dirs path) e → dirs path ≢ None
+  open_at path e has none = subst (λ o. HasAt o e) none has
+
+  names_of_reversed : (back : Path) → dirs (reverse back) ≢ None → AreNames (reverse back)
+  names_of_reversed [] there = All-nil IsEntryName
+  names_of_reversed (name ∷ back) there =
+      elim (dirs (reverse back ++ name ∷ [])) as (λ o. dirs (reverse back ++ name ∷ []) ≡ o → AreNames (reverse (name ∷ back))) [
+        | None ↦ λ none. absurd (there (ap dirs (reverse-cons name back) ∙ none))
+        | Some entries ↦ λ some.
+            let above = all.above (reverse back) name entries some in
+            subst AreNames (sym (reverse-cons name back)) (All-append IsEntryName (reverse back) (name ∷ [])
+            (names_of_reversed back (open_at (reverse back) above.0 above.1))
+            (All-cons IsEntryName name [] (subst IsEntryName above.2 (valid_at (reverse back) above.0 above.1)) (All-nil IsEntryName)))
+      ] refl
+
+  pub names_of_open : (path : Path) → dirs path ≢ None → AreNames path
+  names_of_open path there = subst AreNames (reverse-reverse path)
+      (names_of_reversed (reverse path) (subst (λ (p : Path). dirs p ≢ None) (sym (reverse-reverse path)) there))

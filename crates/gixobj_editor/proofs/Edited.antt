@@ -206,17 +206,6 @@ is_upserted_unchanged {S} trees old path none mode id all idle = subst (λ p. Is
       has_bases = λ T agrees has. has;
     }
 
-pub upsert_error_of_name : (objects : Objects) (may_fail : ObjectId → Bool) (trees : Trees) (dirs : Dirs) (path : Path) (failure : Error)
-    → IsFirstNameError path failure → IsUpsertError objects may_fail trees dirs path failure
-upsert_error_of_name objects may_fail trees dirs path error.EmptyPathComponent h = h
-upsert_error_of_name objects may_fail trees dirs path error.SlashInPathComponent h = h
-upsert_error_of_name objects may_fail trees dirs path (error.FindExistingObject cause) h =
-    absurd (no_other_error path (error.FindExistingObject cause) (λ name k. k) h)
-upsert_error_of_name objects may_fail trees dirs path (error.CannotRemoveNonLeaf at) h =
-    absurd (no_other_error path (error.CannotRemoveNonLeaf at) (λ name k. k) h)
-upsert_error_of_name objects may_fail trees dirs path error.MalformedTree h = absurd (no_other_error path error.MalformedTree (λ name k. k) h)
-upsert_error_of_name objects may_fail trees dirs path error.OutOfMemory h = absurd (no_other_error path error.OutOfMemory (λ name k. k) h)
-
 -- an editor of these parts
 abbrev pub state_of : {S : Type 0} → S → Kind → Path → Opened → ℕ → State S
 state_of store hash prefix ds n = record { dirs = map_of ds; bases = base_map ds; store = store; lookups = n; object_hash = hash; prefix = prefix }

@@ -26,6 +26,7 @@ use Rattle.gixobj_editor.specs.FailedEdits.{HasCountedIn, IsFailedEditIn}
 use Rattle.gixobj_editor_lookups.specs.declared.error.Error.{Error}
 use Rattle.gixobj_editor_lookups.specs.declared.error.Error.TheVariants as error
 pub use Rattle.gixobj_editor_lookups.specs.EditNames.{from_root}
+pub use Rattle.gixobj_editor_lookups.specs.UpsertErrors.{IsCursorEditError}
 
 -- the path of a cursor's directory: the root's if there are no names, or a single empty name; else the path itself
 abbrev pub cursor_path : Path → Path
@@ -52,11 +53,6 @@ abbrev pub IsFailedCursorIn : {S : Type 0} → StoreModel S → State S → Path
 IsFailedCursorIn model old path new failure =
     IsFailedEditIn model old (with_empty_name path) new failure × (IsNameError failure → new ≡ old)
     × HasCountedIn model.objects IsNoTree old (with_empty_name path) new failure
-
--- the errors of an edit by a cursor: those of the editor; and out of memory for the path from the root, if the path has
--- names
-abbrev pub IsCursorEditError : Path → (Error → Type 0) → Error → Type 0
-IsCursorEditError path rejects failure = rejects failure ⊎ ((failure ≡ error.OutOfMemory) × (path ≢ []))
 
 -- the error of an edit at this path from the prefix, by the store's trees and the open directories
 abbrev pub IsErrorBelow : {S : Type 0} → StoreModel S → State S → EditErrors → Path → Error → Type 0

@@ -20,40 +20,13 @@ use Rattle.gixobj_editor_lookups.specs.declared.error.Error.{Error}
 use Rattle.gixobj_editor_lookups.specs.declared.error.Error.TheVariants as error
 pub use Rattle.gixobj_editor_lookups.specs.EditNames.{IsEntryNameError, IsFirstNameError, SplitsForRemoval, StartsInvalid, directory_of}
 pub use Rattle.gixobj_editor_lookups.specs.RemovalErrors.{EditErrors}
-
--- a directory above the path isn't opened, with this cause
-abbrev pub IsUnopenedError : Objects → (ObjectId → Bool) → Trees → Dirs → Path → directory.Error → Type 0
-IsUnopenedError objects may_fail trees dirs path cause = (it : ObjectId) × IsUnopenedAbove trees dirs path it
-    × IsDirectoryError objects may_fail it cause
-
--- each name of the path is valid, and a directory above it isn't opened, with this cause
-abbrev pub IsOpenErrorAbove : Objects → (ObjectId → Bool) → Trees → Dirs → Path → directory.Error → Type 0
-IsOpenErrorAbove objects may_fail trees dirs path cause = AreNames path
-    × IsUnopenedError objects may_fail trees dirs path cause
-
--- the errors of an upsert: that of the first invalid name. If each name is valid, that of an unopened directory above
--- the path: the store doesn't have it as a well-formed tree, or its lookup fails. Or out of memory, if the path has
--- names
-abbrev pub IsUpsertError : Objects → (ObjectId → Bool) → Trees → Dirs → Path → Error → Type 0
-IsUpsertError objects may_fail trees dirs path error.EmptyPathComponent = IsFirstNameError path error.EmptyPathComponent
-IsUpsertError objects may_fail trees dirs path error.SlashInPathComponent =
-    IsFirstNameError path error.SlashInPathComponent
-IsUpsertError objects may_fail trees dirs path (error.FindExistingObject cause) =
-    IsOpenErrorAbove objects may_fail trees dirs path (opening.FindExistingObject cause)
-IsUpsertError objects may_fail trees dirs path error.MalformedTree =
-    IsOpenErrorAbove objects may_fail trees dirs path opening.MalformedTree
-IsUpsertError objects may_fail trees dirs path (error.CannotRemoveNonLeaf at) = ⊥
-IsUpsertError objects may_fail trees dirs path error.OutOfMemory = AreNames path × (path ≢ [])
+pub use Rattle.gixobj_editor_lookups.specs.UpsertErrors.{IsNameError, IsOpenErrorAbove, IsUnopenedError, IsUpsertError}
 
 -- the error of an edit at this path, by the store's trees and the open directories
 abbrev pub IsErrorIn : {S : Type 0} → StoreModel S → State S → EditErrors → Path → Error → Type 0
 IsErrorIn model state Rejects path error =
     OfTrees (model.objects state.store)
     (λ trees. Rejects (model.objects state.store) (model.may_fail state.store) trees (open_dirs state) path error)
-
--- an error for an invalid name
-abbrev pub IsNameError : Error → Type 0
-IsNameError failure = (failure ≡ error.EmptyPathComponent) ⊎ (failure ≡ error.SlashInPathComponent)
 
 -- the effect of an accepted upsert: the open directories, the lookups and the files; the rest is unchanged
 pub record IsUpserted {S : Type 0} (trees : Trees) (old : State S) (path : Path) (mode : ℕ) (id : ObjectId)

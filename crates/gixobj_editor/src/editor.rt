@@ -150,8 +150,8 @@ impl<S> Editor<S> {
 
     /// Returns the number of trees looked up in the store since the editor was made. It saturates at `u64::MAX`.
     ///
-    /// A failed lookup is counted too, also one that runs out of memory. Contracts say so of `try_upsert`,
-    /// `try_remove`, `try_remove_leaf` and `cursor_at`. Allocates nothing.
+    /// A failed lookup is counted too, also one that runs out of memory. Contracts say so of `cursor_at`, and of
+    /// `try_upsert`, `try_remove` and `try_remove_leaf` of editors and cursors. Allocates nothing.
     pub fn lookups(&self) -> u64
         ensures { result ≡ self.now.lookups }
     {

@@ -4,6 +4,7 @@ pub mod LookedUp
 pub mod NamedTrees
 pub mod OpeningDescents
 pub mod OpeningSteps
+pub mod OpeningsBelow
 pub mod Paths
 pub mod Removing
 pub mod ValidNames

@@ -43,7 +43,7 @@ path_nil_or_snoc (name ∷ path) = elim (path_nil_or_snoc path) [
   | inr ends ↦ inr (name ∷ ends.0, ends.1, ap (λ p. name ∷ p) ends.2)
 ]
 
-directory_of_append : (prefix : Path) (name : List ℕ) (back : Path) → directory_of (prefix ++ name ∷ back) ≡ prefix ++ directory_of (name ∷ back)
+pub directory_of_append : (prefix : Path) (name : List ℕ) (back : Path) → directory_of (prefix ++ name ∷ back) ≡ prefix ++ directory_of (name ∷ back)
 directory_of_append [] name back = refl
 directory_of_append (first ∷ []) name back = refl
 directory_of_append (first ∷ second ∷ prefix) name back = ap (λ p. first ∷ p) (directory_of_append (second ∷ prefix) name back)

@@ -3,3 +3,4 @@ pub mod FailedOpenings
 pub mod LookedUp
 pub mod Openings
 pub mod RemovalErrors
+pub mod UpsertErrors

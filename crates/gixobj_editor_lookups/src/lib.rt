@@ -2,6 +2,7 @@
 //! with the names of their paths and their errors.
 #![tactic(auto)]
 
+pub mod below;
 pub mod error;
 pub mod laws;
 pub mod names;

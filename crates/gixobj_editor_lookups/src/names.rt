@@ -24,7 +24,7 @@ pub fn split_for_removal(path: &[BString]) -> (&[BString], &[BString])
 }
 
 /// Returns the path without its last name.
-fn above(path: &[BString]) -> &[BString]
+pub(crate) fn above(path: &[BString]) -> &[BString]
     ensures { names_of result.now ≡ directory_of (names_of path.now) }
 {
     match path.split_last() {

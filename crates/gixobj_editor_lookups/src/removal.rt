@@ -71,7 +71,11 @@ pub fn open_for_removal<S: Find>(
 }
 
 /// Rejects the first of these names that is invalid, if the directory above them is open.
-fn check_reached(root: &Open, directory: &[BString], names: &[BString]) -> Result<(), Error>
+pub(crate) fn check_reached(
+    root: &Open,
+    directory: &[BString],
+    names: &[BString],
+) -> Result<(), Error>
     ensures accepted { OnOk result ((dirs_of root.now (names_of directory.now) ≡ None)
         ⊎ AreNames (names_of names.now)) }
     ensures error { IfErr result (λ error. (entries : List EntryView)

@@ -1,4 +1,7 @@
 //! Cursors of an editor, with edits and writes at paths from one directory.
+//!
+//! An edit opens the directories above its path before it allocates the path from the root: so each lookup is
+//! counted, also one that runs out of memory.
 ghost use Rattle.std.specs.Prelude.{◌≡◌, ◌≢◌, [], IfErr, IfOk, IsOk, None, OnErr, OnOk};
 ghost use Rattle.std.specs.Borrow.{RestsIfErr, sem};
 ghost use Rattle.std.specs.Option.{option_copied};
@@ -11,27 +14,28 @@ ghost use Rattle.gixobj_editor.specs.Removals.{IsLeafRemoved, IsRemoved, IsLeafR
 ghost use Rattle.gixobj_editor.specs.Upserts.{IsNameError, IsUpserted, IsErrorIn, IsUpsertError};
 ghost use Rattle.gixobj_editor.specs.FailedEdits.{HasCountedIn, IsFailedEditIn};
 ghost use Rattle.gixobj_editor.specs.contracts.editor.Editor.{the_row};
-ghost use Rattle.gixobj_editor_files.specs.Edits.{IsNoTree, entry_at};
-ghost use Rattle.gixobj_editor_files.specs.Files.{Path};
+ghost use Rattle.gixobj_editor_files.specs.Edits.{IsNoTree, IsNotLookedUp, entry_at};
 ghost use Rattle.gixobj_editor_files.specs.Emission.{EmitsSome};
-ghost use Rattle.gixobj_editor_files.specs.Bases.{opened_bases};
-ghost use Rattle.gixobj_editor_files.specs.Opening.{IsOpened, in_path};
+ghost use Rattle.gixobj_editor_files.specs.Opening.{in_path};
 ghost use Rattle.gixobj_editor_files.specs.State.{open_bases, open_dirs};
 ghost use Rattle.gixobj_editor_files.specs.Unopened.{with_empty_name};
 ghost use Rattle.gixobj_store.specs.Stores.{store_model};
 ghost use Rattle.gixobj_tree_entries.specs.Mode.{mode_of_kind};
 
+mod writing;
+
 use super::{Editor, Error, WriteError, Written};
 use bstr::BString;
-use gixobj_editor_lookups::names::{copy_names, join_paths, validate_names};
+use gixobj_editor_lookups::below::{open_for_removal_below, open_for_upsert_below};
+use gixobj_editor_lookups::names::{copy_names, validate_names};
 use gixobj_editor_lookups::opening::{NotLookedUp, open_along};
+use gixobj_editor_lookups::removal::check_leaf;
 use gixobj_editor_write::write::write_at;
 use gixobj_hash::OutOfMemory;
 use gixobj_hash::hash::ObjectId;
 use gixobj_store::Find;
 use gixobj_tree::Tree;
 use gixobj_tree::tree::{Entry, EntryKind};
-use std::alloc::AllocError;
 use std::marker::Model;
 
 /// A zero-sized field next to the reference to the editor. It makes a cursor a value of its own: only then does the
@@ -185,18 +189,6 @@ impl<S: Find> Editor<S> {
 }
 
 impl<S> Editor<S> {
-    /// Joins the prefix and a path; the result for an empty path is empty.
-    fn path_from_root(&self, path: &[BString]) -> Result<Vec<BString>, AllocError>
-        ensures joined { IfOk result (λ it. names_of it.items
-            ≡ from_root self.now.prefix (names_of path.now)) }
-        ensures allocates { OnErr result (names_of path.now ≢ []) }
-        ensures is_opened { IsOpened (open_dirs self.now) }
-        ensures bases { (at : Path) → open_bases self.now at
-            ≡ opened_bases (open_dirs self.now) (open_dirs self.now) (open_bases self.now) at }
-    {
-        join_paths(*self.prefix.allocator(), &self.prefix, path)
-    }
-
     /// Returns the entry at a path from the prefix.
     fn get_below(&self, path: &[BString]) -> Option<&Entry>
         ensures { option_copied result ≡ entry_at (from_root self.now.prefix (names_of path.now))
@@ -294,11 +286,29 @@ impl<S: Find> Cursor<'_, S> {
             self.old.editor.now (from_root self.old.editor.now.prefix (names_of path.now)) self.new.editor.now) }
         ensures error { IfErr result (IsErrorBelow (store_model S.objects S.may_fail)
             self.old.editor.now IsUpsertError (names_of path.now)) }
+        ensures lookups { IfErr result (HasCountedIn S.objects IsNoTree self.old.editor.now
+            (from_root self.old.editor.now.prefix (names_of path.now)) self.new.editor.now) }
         ensures unchanged { IfErr result (λ error. IsNameError error
             → self.new.editor.now ≡ self.old.editor.now) }
     {
-        let path = self.editor.path_from_root(path)?;
-        self.editor.try_upsert(&path, kind, id)
+        let editor = &mut *self.editor;
+        let alloc = *editor.prefix.allocator();
+        if path.is_empty() {
+            return Ok(());
+        }
+        let null = ObjectId::null(editor.object_hash);
+        let path = open_for_upsert_below(
+            alloc,
+            &mut editor.root,
+            &editor.prefix,
+            path,
+            &editor.store,
+            &mut editor.lookups,
+        )?;
+        editor
+            .root
+            .insert_entry(alloc, &path, kind.into(), id, null)?;
+        Ok(())
     }
 
     /// Removes an entry like [`Cursor::try_remove`], and returns the cursor, so that calls chain.
@@ -343,11 +353,24 @@ impl<S: Find> Cursor<'_, S> {
             self.old.editor.now (from_root self.old.editor.now.prefix (names_of path.now)) self.new.editor.now) }
         ensures error { IfErr result (IsErrorBelow (store_model S.objects S.may_fail)
             self.old.editor.now IsRemovalError (names_of path.now)) }
+        ensures lookups { IfErr result (HasCountedIn S.objects IsNoTree self.old.editor.now
+            (from_root self.old.editor.now.prefix (names_of path.now)) self.new.editor.now) }
         ensures unchanged { OnErr result (StartsInvalid (from_root self.old.editor.now.prefix
             (names_of path.now)) → self.new.editor.now ≡ self.old.editor.now) }
     {
-        let path = self.editor.path_from_root(path)?;
-        self.editor.try_remove(&path)
+        let editor = &mut *self.editor;
+        let alloc = *editor.prefix.allocator();
+        let path = open_for_removal_below(
+            alloc,
+            &mut editor.root,
+            &editor.prefix,
+            path,
+            NotLookedUp::Opened,
+            &editor.store,
+            &mut editor.lookups,
+        )?;
+        editor.root.take(&path);
+        Ok(())
     }
 
     /// Removes an entry like [`Cursor::try_remove_leaf`], and returns the cursor, so that calls chain.
@@ -392,11 +415,25 @@ impl<S: Find> Cursor<'_, S> {
             self.old.editor.now (from_root self.old.editor.now.prefix (names_of path.now)) self.new.editor.now) }
         ensures error { IfErr result (IsErrorBelow (store_model S.objects S.may_fail)
             self.old.editor.now IsLeafRemovalError (names_of path.now)) }
+        ensures lookups { IfErr result (HasCountedIn S.objects IsNotLookedUp self.old.editor.now
+            (from_root self.old.editor.now.prefix (names_of path.now)) self.new.editor.now) }
         ensures unchanged { OnErr result (StartsInvalid (from_root self.old.editor.now.prefix
             (names_of path.now)) → self.new.editor.now ≡ self.old.editor.now) }
     {
-        let path = self.editor.path_from_root(path)?;
-        self.editor.try_remove_leaf(&path)
+        let editor = &mut *self.editor;
+        let alloc = *editor.prefix.allocator();
+        let path = open_for_removal_below(
+            alloc,
+            &mut editor.root,
+            &editor.prefix,
+            path,
+            NotLookedUp::Unopened,
+            &editor.store,
+            &mut editor.lookups,
+        )?;
+        check_leaf(alloc, &editor.root, &path)?;
+        editor.root.take(&path);
+        Ok(())
     }
 }
 
@@ -426,75 +463,5 @@ impl<S> Cursor<'_, S> {
             (open_dirs self.now.editor.now)) }
     {
         Ok(self.editor.get_below(path))
-    }
-}
-
-/// Writing
-impl<S> Cursor<'_, S> {
-    /// Emits the changed open directories below the prefix to `out`, and last the directory at the prefix,
-    /// like gix-object's `Cursor::write`.
-    ///
-    /// It is [`Cursor::try_write`] with an owned closure, callable as is said there, and allocates the same.
-    ///
-    /// # Errors
-    ///
-    /// Those of [`Cursor::try_write`].
-    pub fn write<E, F: FnMut(&Tree) -> Result<ObjectId, E> + Drop>(
-        &mut self,
-        out: F,
-    ) -> Result<Written, WriteError<E>>
-        requires { IsCallableOnTrees F.pre (answered F.FnMut) out }
-        ensures same_reference { self.new.editor.ghost_name ≡ self.old.editor.ghost_name }
-        ensures prefix { self.new.editor.now.prefix ≡ self.old.editor.now.prefix }
-        ensures written { IfOk result (λ it. (last : F)
-            × IsWrittenBelow (answered F.FnMut) out self.old.editor.now self.old.editor.now.prefix
-            it self.new.editor.now last) }
-        ensures error { IfErr result (λ error. (last : F)
-            × IsWriteError (answered F.FnMut) (denied F.FnMut)
-            (EmitsSome (in_path self.old.editor.now.prefix (open_dirs self.old.editor.now))
-            (in_path self.old.editor.now.prefix (open_bases self.old.editor.now))) out last error) }
-        ensures unchanged { OnErr result (self.new.editor.now ≡ self.old.editor.now) }
-    {
-        let mut out = out;
-        self.try_write(&mut out)
-    }
-
-    /// Emits the changed open directories below the prefix to `out`, and last the directory at the prefix,
-    /// even if it is empty or unchanged.
-    ///
-    /// Which trees are emitted, and what is allocated, is as in [`Editor::try_write`]. Then the directory is
-    /// open with the emitted tree, and no directory in it is open. All other open directories are unchanged.
-    ///
-    /// The base of the directory is unchanged, since its entry in the tree above still has the old id. If it
-    /// is changed then, the next write of the root emits it once more.
-    ///
-    /// The returned id names a tree with exactly the files below the prefix; the editor's files are
-    /// unchanged. This holds in each table that has the emitted trees and the bases of the open directories.
-    ///
-    /// `out` must be callable on every well-formed tree without null ids, whatever it was called on before.
-    ///
-    /// # Errors
-    ///
-    /// - [`WriteError::Out`] with the error that `out` returns for a tree;
-    /// - [`WriteError::OutOfMemory`] if allocation fails.
-    ///
-    /// The editor is unchanged after an error; earlier calls of `out` aren't undone.
-    pub fn try_write<E, F: FnMut(&Tree) -> Result<ObjectId, E>>(
-        &mut self,
-        out: &mut F,
-    ) -> Result<Written, WriteError<E>>
-        requires { IsCallableOnTrees F.pre (answered F.FnMut) out.old }
-        ensures same_reference { self.new.editor.ghost_name ≡ self.old.editor.ghost_name }
-        ensures prefix { self.new.editor.now.prefix ≡ self.old.editor.now.prefix }
-        ensures written { IfOk result (λ it.
-            IsWrittenBelow (answered F.FnMut) out.old self.old.editor.now self.old.editor.now.prefix
-            it self.new.editor.now out.new) }
-        ensures error { IfErr result (IsWriteError (answered F.FnMut) (denied F.FnMut)
-            (EmitsSome (in_path self.old.editor.now.prefix (open_dirs self.old.editor.now))
-            (in_path self.old.editor.now.prefix (open_bases self.old.editor.now))) out.old
-            out.new) }
-        ensures unchanged { OnErr result (self.new.editor.now ≡ self.old.editor.now) }
-    {
-        self.editor.write_below(out)
     }
 }
