@@ -2,8 +2,6 @@
 #![tactic(auto)]
 
 #[cfg(test)]
-mod converted;
-#[cfg(test)]
 mod editor;
 pub mod imports;
 #[cfg(test)]

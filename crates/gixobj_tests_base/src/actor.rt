@@ -8,6 +8,11 @@ use gixobj_base::date::TimeBuf;
 use gixobj_base::encode::Error;
 use std::alloc::Global;
 
+/// Returns whether the actor was rejected.
+fn is_illegal(outcome: Result<(), Error>) -> bool {
+    matches!(&outcome, Err(Error::IllegalActor))
+}
+
 #[test]
 fn rejects_newline_in_name(rt: HostRuntime) {
     let actor = SignatureRef {
@@ -16,11 +21,9 @@ fn rejects_newline_in_name(rt: HostRuntime) {
         time: BStr::new(b"0 +0000"),
     };
     let mut out = Vec::new(rt.alloc());
-    assert!(rt; matches!(&actor.write_to(&mut out), Err(Error::IllegalActor)));
+    assert!(rt; is_illegal(actor.write_to(&mut out)));
     let owned = actor.to_owned(rt.alloc());
-    assert!(rt;
-        holds!(&owned, Ok(it) => matches!(&it.write_to(&mut out), Err(Error::IllegalActor)))
-    );
+    assert!(rt; holds!(&owned, Ok(it) => is_illegal(it.write_to(&mut out))));
     assert!(rt; out.is_empty());
 }
 

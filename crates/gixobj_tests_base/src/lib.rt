@@ -8,17 +8,11 @@ mod blob;
 #[cfg(test)]
 mod borrowed;
 #[cfg(test)]
-mod converted;
-#[cfg(test)]
 mod date;
 #[cfg(test)]
 mod fields;
 #[cfg(test)]
-mod hash;
-#[cfg(test)]
 mod helpers;
-#[cfg(test)]
-mod kind;
 pub mod limited;
 #[cfg(test)]
 mod loose;

@@ -3,6 +3,7 @@
 use crate::helpers::{holds, is_message};
 use gixobj_base::Kind;
 use gixobj_base::decode::{LooseContentError, LooseHeaderDecodeError, loose_content};
+use std::alloc::Global;
 
 /// Loose objects, with their kinds and contents.
 const ROWS: &[(&[u8], Kind, &[u8])] = &[
@@ -19,25 +20,18 @@ fn decodes_kind_and_content(rt: HostRuntime) {
     }
 }
 
-/// The message for the first of the rejected inputs.
+/// Returns whether an error has this message.
+fn has_message(alloc: Global, error: LooseContentError, message: &str) -> bool {
+    is_message(error.to_string(alloc), message)
+}
+
+/// The message for content that is one byte short.
 const SHORT: &str = "the content is shorter than the 7 bytes of its header";
 
 #[test]
-fn rejects_short_content_and_invalid_header(rt: HostRuntime) {
-    let alloc = rt.alloc();
-    let short = loose_content(alloc, b"blob 7\0hello\n");
-    assert!(rt; holds!(&short, Err(LooseContentError::Short { size }) => *size == 7));
-    assert!(rt; holds!(&short, Err(error) => is_message(&error.to_string(alloc), SHORT)));
-    let shorter = loose_content(alloc, b"blob 18446744073709551615\0");
-    assert!(rt; holds!(&shorter, Err(LooseContentError::Short { size }) => *size == u64::MAX));
-    let of_header = loose_content(alloc, b"blob 6");
-    assert!(rt;
-        holds!(
-            &of_header,
-            Err(LooseContentError::Header(error)) =>
-                matches!(error, LooseHeaderDecodeError::InvalidHeader { .. })
-        )
-    );
+fn errors_print_their_messages(rt: HostRuntime) {
     let of_memory = LooseContentError::from(LooseHeaderDecodeError::OutOfMemory);
-    assert!(rt; is_message(&of_memory.to_string(alloc), "out of memory"));
+    assert!(rt; has_message(rt.alloc(), of_memory, "out of memory"));
+    let short = loose_content(rt.alloc(), b"blob 7\0hello\n").err();
+    assert!(rt; holds!(short, Some(error) => has_message(rt.alloc(), error, SHORT)));
 }

@@ -28,8 +28,8 @@ fn empty_tree_allocates_nothing(rt: HostRuntime) {
 #[test]
 fn errors_print_their_messages(rt: HostRuntime) {
     let malformed = decode::Error::Malformed.to_string(rt.alloc());
-    assert!(rt; is_message(&malformed, "malformed object"));
+    assert!(rt; is_message(malformed, "malformed object"));
     let ended = stream_hash::Error::UnexpectedEof.to_string(rt.alloc());
-    assert!(rt; is_message(&ended, "the stream ended before the content did"));
-    assert!(rt; is_message(&OutOfMemory.to_string(rt.alloc()), "out of memory"));
+    assert!(rt; is_message(ended, "the stream ended before the content did"));
+    assert!(rt; is_message(OutOfMemory.to_string(rt.alloc()), "out of memory"));
 }

@@ -23,31 +23,37 @@ fn blob_id<R: Read>(stream: &mut R, len: u64) -> Result<ObjectId, Error> {
     compute_stream_hash(hash::Kind::Sha1, Kind::Blob, stream, len)
 }
 
+/// Returns whether the id is that of `hello` and a newline, and `rest` remains.
+fn is_hello(found: Result<ObjectId, Error>, remaining: &[u8]) -> bool {
+    found.ok() == ObjectId::from_hex(HELLO) && remaining == b"rest".as_slice()
+}
+
 #[test]
 fn hashes_prefix_of_stream_slice_and_source(rt: HostRuntime) {
-    let id = ObjectId::from_hex(HELLO);
     let mut stream: &[u8] = b"hello\nrest";
-    assert!(rt; blob_id(&mut stream, 6).ok() == id);
-    assert!(rt; stream == b"rest".as_slice());
+    let of_stream = blob_id(&mut stream, 6);
+    assert!(rt; is_hello(of_stream, stream));
     let mut slice: &[u8] = b"hello\nrest";
     let of_slice = compute_slice_hash(hash::Kind::Sha1, Kind::Blob, &mut slice, 6);
-    assert!(rt; of_slice.ok() == id);
-    assert!(rt; slice == b"rest".as_slice());
+    assert!(rt; is_hello(of_slice, slice));
     let mut source: &[u8] = b"hello\nrest";
     let of_source = compute_source_hash(hash::Kind::Sha1, Kind::Blob, &mut source, 6);
-    assert!(rt; of_source.ok() == id);
-    assert!(rt; source == b"rest".as_slice());
+    assert!(rt; is_hello(of_source, source));
+}
+
+/// Returns whether the content ended early, and nothing remains.
+fn is_ended(found: Result<ObjectId, Error>, remaining: &[u8]) -> bool {
+    matches!(&found, Err(Error::UnexpectedEof)) && remaining.is_empty()
 }
 
 #[test]
 fn returns_unexpected_eof_when_slice_ends_early(rt: HostRuntime) {
     let mut stream: &[u8] = b"hello";
-    assert!(rt; matches!(&blob_id(&mut stream, 6), Err(Error::UnexpectedEof)));
-    assert!(rt; stream.is_empty());
+    let of_stream = blob_id(&mut stream, 6);
+    assert!(rt; is_ended(of_stream, stream));
     let mut slice: &[u8] = b"hello";
-    let rejected = compute_slice_hash(hash::Kind::Sha1, Kind::Blob, &mut slice, 6);
-    assert!(rt; matches!(&rejected, Err(Error::UnexpectedEof)));
-    assert!(rt; slice.is_empty());
+    let of_slice = compute_slice_hash(hash::Kind::Sha1, Kind::Blob, &mut slice, 6);
+    assert!(rt; is_ended(of_slice, slice));
 }
 
 /// Fails with `Io` or `UnexpectedEof` if a reader fails or ends after a shorter prefix of `hello` and a

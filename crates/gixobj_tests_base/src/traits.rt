@@ -21,6 +21,15 @@ fn bytes_of<T: WriteTo>(alloc: Global, object: &T) -> Result<Vec<u8>, encode::Er
     Ok(out)
 }
 
+/// Returns whether an object has this encoding with its size, and this loose header.
+fn is_encoded<T: WriteTo>(alloc: Global, object: &T, header: &[u8], content: &[u8]) -> bool
+    requires { T.can_write object.now }
+{
+    object.size() == Some(content.len() as u64)
+        && holds!(bytes_of(alloc, object), Ok(out) => out.as_slice() == content)
+        && holds!(object.loose_header(alloc), Some(it) => it.as_slice() == header)
+}
+
 /// Returns whether an object has this kind, this encoding with its size, this loose header and this SHA-1 id.
 fn is_object<T: WriteTo>(
     alloc: Global,
@@ -34,10 +43,8 @@ fn is_object<T: WriteTo>(
 {
     let hash = compute_hash(hash::Kind::Sha1, kind, content);
     object.kind() == kind
-        && object.size() == Some(content.len() as u64)
         && Some(hash) == ObjectId::from_hex(id.as_bytes())
-        && holds!(bytes_of(alloc, object), Ok(out) => out.as_slice() == content)
-        && holds!(object.loose_header(alloc), Some(it) => it.as_slice() == header)
+        && is_encoded(alloc, object, header, content)
 }
 
 /// Contents of blobs, their loose headers, and the ids that `git hash-object` prints.

@@ -1,12 +1,11 @@
-//! The order of trees.
+//! Trees of rows of entries.
 
 mod write;
 
-use crate::helpers::{are_ordered, string_of};
+use crate::helpers::string_of;
 use gixobj_base::hash::{Kind, ObjectId};
 use gixobj_base::tree::{Entry, EntryKind, Tree};
 use std::alloc::Global;
-use std::cmp::Ordering;
 
 /// Returns a tree of entries of these kinds and names, in this order. Each has the id of the empty blob if its row
 /// says so, and otherwise the null id. Shorter if memory runs out.
@@ -26,15 +25,4 @@ pub(crate) fn tree_of(alloc: Global, rows: &[(EntryKind, &[u8], bool)]) -> Tree 
         });
     }
     tree
-}
-
-#[test]
-fn trees_compare_by_entries(rt: HostRuntime) {
-    let alloc = rt.alloc();
-    let one = tree_of(alloc, &[(EntryKind::Blob, b"a", false)]);
-    let same = tree_of(alloc, &[(EntryKind::Blob, b"a", false)]);
-    let other = tree_of(alloc, &[(EntryKind::Blob, b"b", false)]);
-    assert!(rt; are_ordered(&Tree::empty(alloc), &one, Ordering::Less));
-    assert!(rt; are_ordered(&one, &other, Ordering::Less));
-    assert!(rt; are_ordered(&same, &one, Ordering::Equal));
 }

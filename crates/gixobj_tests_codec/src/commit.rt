@@ -3,7 +3,7 @@
 
 mod allocation_failures;
 mod headers;
-mod orders;
+mod tokens;
 mod writers;
 
 use gixobj_base::decode;

@@ -38,7 +38,7 @@ pub(crate) fn hash_of<T: Hash>(value: &T) -> u64 {
 }
 
 /// Returns whether values compare as wanted, and are equal with one hash if and only if `Equal` is wanted.
-pub(crate) fn are_ordered<T: Ord + Hash>(first: &T, second: &T, wanted: Ordering) -> bool {
+fn are_ordered<T: Ord + Hash>(first: &T, second: &T, wanted: Ordering) -> bool {
     first.cmp(second) == wanted
         && first.partial_cmp(second) == Some(wanted)
         && (first == second) == wanted.is_eq()

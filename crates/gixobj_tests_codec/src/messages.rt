@@ -3,15 +3,13 @@
 mod allocation_failures;
 
 use crate::commit::read;
-use crate::helpers::{are_in_order, are_ordered, holds};
+use crate::helpers::holds;
 use bstr::BStr;
 use gixobj_base::OutOfMemory;
+use gixobj_codec::commit::CommitRef;
 use gixobj_codec::commit::message::BodyRef;
 use gixobj_codec::commit::message::body::{Filtered, TrailerRef};
-use gixobj_codec::commit::{CommitRef, MessageRef};
 use std::alloc::Global;
-use std::borrow::CowSlice;
-use std::cmp::Ordering;
 
 /// A commit with one sign-off, two co-authors, four assistants, three other attributions and a link.
 const ATTRIBUTED: &[u8] = b"tree 4b825dc642cb6eb9a060e54bf8d69288fbee4904\n\
@@ -58,9 +56,10 @@ fn filters_yield_trailers_of_their_names(rt: HostRuntime) {
     );
 }
 
-/// Returns whether the item is a trailer with the token `A` and the value `1 2`.
+/// Returns whether the item is a trailer with the token `A` and the value `1 2`, equal to its copy.
 fn is_folded(item: &Result<TrailerRef<'_>, OutOfMemory>) -> bool {
     holds!(item, Ok(it) => it.token.as_bytes() == b"A".as_slice() && it.value.as_slice() == b"1 2".as_slice())
+        && holds!(item, Ok(it) => holds!(it.clone(), Ok(copy) => copy == *it))
 }
 
 /// Counts the trailers of a body; `None` if one isn't `A: 1 2`.
@@ -79,79 +78,4 @@ fn count_folded(alloc: Global, body: &[u8]) -> Option<usize> {
 fn yields_many_trailers_of_two_lines(rt: HostRuntime) {
     let body = "A: 1\n 2\n".repeat(rt.alloc(), 3_000);
     assert!(rt; holds!(&body, Ok(it) => count_folded(rt.alloc(), it.as_bytes()) == Some(3_000)));
-}
-
-/// Returns a trailer with this token.
-fn named(token: &[u8]) -> TrailerRef<'_> {
-    TrailerRef {
-        token: BStr::new(token),
-        value: CowSlice::Borrowed(b"A"),
-    }
-}
-
-/// Tokens, and which predicates hold of them: one for each of six names, and `is_attribution`.
-const NAMES: &[(&str, [bool; 7])] = &[
-    (
-        "Signed-off-by",
-        [true, false, false, false, false, false, true],
-    ),
-    (
-        "CO-AUTHORED-BY",
-        [false, true, false, false, false, false, true],
-    ),
-    (
-        "assisted-by",
-        [false, false, true, false, false, false, true],
-    ),
-    ("Acked-By", [false, false, false, true, false, false, true]),
-    (
-        "Reviewed-by",
-        [false, false, false, false, true, false, true],
-    ),
-    ("tested-by", [false, false, false, false, false, true, true]),
-    (
-        "Signed-off-b",
-        [false, false, false, false, false, false, false],
-    ),
-    (
-        "Signed-off-by-",
-        [false, false, false, false, false, false, false],
-    ),
-    ("", [false, false, false, false, false, false, false]),
-];
-
-/// Returns which of the predicates hold of a token's trailer.
-fn tests_of(token: &str) -> [bool; 7] {
-    let trailer = named(token.as_bytes());
-    [
-        trailer.is_signed_off_by(),
-        trailer.is_co_authored_by(),
-        trailer.is_assisted_by(),
-        trailer.is_acked_by(),
-        trailer.is_reviewed_by(),
-        trailer.is_tested_by(),
-        trailer.is_attribution(),
-    ]
-}
-
-#[test]
-fn predicates_hold_for_their_tokens(rt: HostRuntime) {
-    for (token, tests) in NAMES {
-        assert!(rt; tests_of(token) == *tests, "{token}");
-    }
-}
-
-#[test]
-fn parts_compare_and_hash_by_bytes(rt: HostRuntime) {
-    let messages = [
-        MessageRef::from_bytes(b"a"),
-        MessageRef::from_bytes(b"a\n\nb"),
-        MessageRef::from_bytes(b"a\n\nc"),
-    ];
-    let bodies = [BodyRef::from_bytes(b"a\n\nB: 1"), BodyRef::from_bytes(b"b")];
-    let (trailer, later) = (named(b"a"), named(b"b"));
-    assert!(rt; are_in_order(&messages));
-    assert!(rt; are_in_order(&bodies));
-    assert!(rt; are_ordered(&trailer, &later, Ordering::Less));
-    assert!(rt; holds!(trailer.clone(), Ok(copy) => are_ordered(&copy, &trailer, Ordering::Equal)));
 }

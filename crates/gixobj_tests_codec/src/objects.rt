@@ -7,20 +7,10 @@ mod samples;
 
 use crate::helpers::{are_copied, are_in_order, holds};
 use gixobj_base::Kind;
-use gixobj_base::decode::Error;
 use gixobj_base::hash::{Kind as HashKind, ObjectId};
-use gixobj_codec::LooseDecodeError::{self, InvalidContent};
 use gixobj_codec::{Data, data};
 use samples::ENCODINGS;
 use std::alloc::Global;
-
-#[test]
-fn conversion_keeps_cause(rt: HostRuntime) {
-    let of_memory = LooseDecodeError::from(Error::OutOfMemory);
-    let of_bytes = LooseDecodeError::from(Error::Malformed);
-    assert!(rt; matches!(&of_memory, InvalidContent(Error::OutOfMemory)));
-    assert!(rt; matches!(&of_bytes, InvalidContent(Error::Malformed)));
-}
 
 /// Returns whether an empty object of this kind has the first id, and verifying the other id fails with both.
 fn is_verified(kind: Kind, id: ObjectId, other: ObjectId) -> bool {

@@ -1,7 +1,6 @@
-//! Tests of tags: tokens, writing, order, and rejected names.
+//! Tests of tags: tokens, writing, and rejected names.
 
 mod iterated;
-mod orders;
 mod writers;
 
 use crate::helpers::holds;

@@ -1,7 +1,6 @@
-//! Trees: orders, failing writers, empty trees, and offsets of the reader.
+//! Trees: failing writers, empty trees, and offsets of the reader.
 
 mod offsets;
-mod orders;
 mod writers;
 
 use crate::helpers::holds;

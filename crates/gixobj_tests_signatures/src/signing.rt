@@ -5,7 +5,7 @@ use crate::objects::{Outcome, after_calls};
 use gixobj_encode::encode;
 use gixobj_hash::decode;
 use gixobj_parse::signature::Format::{self, OpenPgp, Ssh, X509};
-use gixobj_signature::signature::sign::{Error, Options, is_literal_ssh_key, sign_payload};
+use gixobj_signature::signature::sign::{Error, Options, sign_payload};
 use std::alloc::Global;
 
 /// The confirmation of a signature.
@@ -232,12 +232,4 @@ fn without_a_key_no_call_is_made(rt: HostRuntime) {
             "{format:?}"
         );
     }
-}
-
-#[test]
-fn recognizes_literal_ssh_keys(rt: HostRuntime) {
-    assert!(rt; is_literal_ssh_key(b"key::k") == Some(b"k".as_slice()));
-    assert!(rt; is_literal_ssh_key(b"ssh-k") == Some(b"ssh-k".as_slice()));
-    assert!(rt; is_literal_ssh_key(b"Key::k").is_none());
-    assert!(rt; is_literal_ssh_key(b"").is_none());
 }

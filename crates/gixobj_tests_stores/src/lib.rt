@@ -21,8 +21,6 @@ mod recording;
 #[cfg(test)]
 mod samples;
 #[cfg(test)]
-mod steps;
-#[cfg(test)]
 mod stores;
 #[cfg(test)]
 mod written;

@@ -7,10 +7,11 @@ use gixobj_base::hash::Kind::Sha1;
 use gixobj_codec::{Object, ObjectRef};
 use std::alloc::Global;
 
-/// A commit with an encoding.
-const WITH_ENCODING: &[u8] = b"tree 4b825dc642cb6eb9a060e54bf8d69288fbee4904\n\
+/// A commit with a parent, an encoding, and headers of one line and of two.
+const WITH_HEADERS: &[u8] = b"tree 4b825dc642cb6eb9a060e54bf8d69288fbee4904\n\
+    parent 4b825dc642cb6eb9a060e54bf8d69288fbee4904\n\
     author A <a@b> 0 +0000\ncommitter A <a@b> 0 +0000\n\
-    encoding ISO-8859-1\n\nhi\n";
+    encoding ISO-8859-1\nx A\ny A\n B\n\nhi\n";
 
 /// A tag with a tagger, a message and a signature.
 const SIGNED: &[u8] = b"object 4b825dc642cb6eb9a060e54bf8d69288fbee4904\n\
@@ -23,7 +24,7 @@ pub(super) const ENCODINGS: &[(Kind, &[u8])] = &[
     (Tree, b"100644 a\0aaaaaaaaaaaaaaaaaaaa"),
     (Blob, b"hello"),
     (Commit, PLAIN),
-    (Commit, WITH_ENCODING),
+    (Commit, WITH_HEADERS),
     (Tag, BARE),
     (Tag, SIGNED),
 ];
