@@ -2,6 +2,8 @@
 #![tactic(auto)]
 
 #[cfg(test)]
+mod checking_tasks;
+#[cfg(test)]
 mod more_tasks;
 #[cfg(test)]
 mod printing_tasks;

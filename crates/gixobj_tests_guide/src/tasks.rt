@@ -1,6 +1,7 @@
 //! Calls examples of docs/GUIDE.md once. That document prints the files without their head comments.
 
 pub mod batches;
+pub mod checks;
 mod clauses;
 pub mod commit_edits;
 mod commits;
