@@ -11,7 +11,8 @@ use Rattle.std.specs.Prelude.{◌==◌, ℤ, pos, negsuc, neg_ℤ, FitsSigned, d
 use Rattle.std.specs.Str.Parse.{AllDigits}
 use Rattle.gixobj_hash.proofs.DecodedSizes.{digits_without_minus}
 use Rattle.gixobj_hash.proofs.Splits.{no_split_of_byte_free, split_parts_unique}
-use Rattle.gixobj_actor.specs.Date.{IsMalformedTime, IsOffset, DecodesToOffset, DecodesToSeconds, DecodesToTime, encode_offset, encode_offset_parts, seconds_digits, encode_time}
+use Rattle.gixobj_actor.specs.Date.{IsMalformedTime, IsOffset, DecodesToOffset, DecodesToSeconds, DecodesToTime, encode_offset, encode_offset_parts}
+use Rattle.gixobj_actor.specs.Date.{seconds_digits, encode_time}
 use Rattle.gixobj_hash.specs.ByteStrings.{IsByteFree, SplitsAt}
 
 decimal_digit_ne_space : (byte : ℕ) → digit_value byte < 10 → byte ≢ 32

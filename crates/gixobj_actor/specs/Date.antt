@@ -1,5 +1,6 @@
 -- The times of actor lines: seconds and an offset (git-fast-import, "Date Formats", "raw").
-use Rattle.std.specs.Prelude.{◌≡◌, ◌≤◌, ◌<◌, ◌+◌, ◌*◌, ◌/◌, ◌%◌, ℕ, ℤ, Bool, List, [], ◌∷◌, ◌++◌, pos, negsuc, true, false, drop, unsigned_abs, neg_ℤ, if◌then◌else◌, FitsSigned}
+use Rattle.std.specs.Prelude.{◌≡◌, ◌≤◌, ◌<◌, ◌+◌, ◌*◌, ◌/◌, ◌%◌, ℕ, ℤ, Bool, List, [], ◌∷◌, ◌++◌, pos, negsuc, true}
+use Rattle.std.specs.Prelude.{false, drop, unsigned_abs, neg_ℤ, if◌then◌else◌, FitsSigned}
 use Rattle.std.specs.Fmt.{signed_decimal}
 use Rattle.std.specs.Int.{w64}
 use Rattle.std.specs.Str.Parse.{IsNumeral, digits_value, starts_with_minus}

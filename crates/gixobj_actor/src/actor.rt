@@ -1,13 +1,17 @@
 //! Actors: who made an object, and when (`git-commit-tree`, "Commit Information"; `git-fast-import`,
 //! "author" and "committer").
-ghost use Rattle.std.specs.Prelude.{◌≡◌, ◌≤◌, ◌<◌, ◌+◌, ◌-◌, ◌*◌, ◌^◌, ◌++◌, [], ℕ, List, length, IfErr, IfNone, IfOk, IfSome, MatchBool, OnErr, OnOk, IsTrue, ◌↔◌, codes};
+ghost use Rattle.std.specs.Prelude.{◌≡◌, ◌≤◌, ◌<◌, ◌+◌, ◌-◌, ◌*◌, ◌^◌, ◌++◌, [], ℕ, List, length, IfErr, IfNone, IfOk};
+ghost use Rattle.std.specs.Prelude.{IfSome, MatchBool, OnErr, OnOk, IsTrue, ◌↔◌, codes};
 ghost use Rattle.std.specs.Io.KnownBytes.{Appends};
 ghost use Rattle.std.specs.List.{AllPass};
 ghost use Rattle.std.specs.Option.{SomeIff};
 ghost use Rattle.bstr.specs.BStr.{bstr_bytes};
 ghost use Rattle.bstr.specs.Owned.{bstring_bytes};
-ghost use Rattle.gixobj_actor.specs.Actor.{EndsTime, IsActorLineOf, IsGap, IsNameOf, IsMalformedActorLine, IsTimeOrDefault, IsWritable, encode_actor, actor_view, is_time_byte as is_time_byte_of};
-ghost use Rattle.gixobj_actor.specs.ActorWriting.{IsLegal, IsLegalActor, IsActorError, encode_borrowed_actor, encode_owned_actor};
+ghost use Rattle.gixobj_actor.specs.Actor.{EndsTime, IsActorLineOf, IsGap, IsNameOf, IsMalformedActorLine};
+ghost use Rattle.gixobj_actor.specs.Actor.{IsTimeOrDefault, IsWritable, encode_actor, actor_view};
+ghost use Rattle.gixobj_actor.specs.Actor.{is_time_byte as is_time_byte_of};
+ghost use Rattle.gixobj_actor.specs.ActorWriting.{IsLegal, IsLegalActor, IsActorError, encode_borrowed_actor};
+ghost use Rattle.gixobj_actor.specs.ActorWriting.{encode_owned_actor};
 ghost use Rattle.gixobj_actor.specs.Date.{IsMalformedTime, DecodesToTime, encode_time};
 ghost use Rattle.gixobj_streams.specs.Streams.{AppendsAll, AppendsPrefix, AppendsOrFails, writer_view};
 ghost use Rattle.gixobj_hash.specs.declared.decode.Error.TheVariants.{Malformed};

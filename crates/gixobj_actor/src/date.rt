@@ -1,8 +1,10 @@
 //! Times of actor lines: seconds since 1970 and an offset from UTC (`git-fast-import`, "Date Formats",
 //! "raw").
-ghost use Rattle.std.specs.Prelude.{◌≡◌, ◌≤◌, ◌<◌, ◌+◌, ◌*◌, ◌++◌, ◌↔◌, [], ◌∷◌, ℕ, ℤ, length, IfNone, IfSome, IsSome, IsTrue, IsAscii, decimal};
+ghost use Rattle.std.specs.Prelude.{◌≡◌, ◌≤◌, ◌<◌, ◌+◌, ◌*◌, ◌++◌, ◌↔◌, [], ◌∷◌, ℕ, ℤ, length, IfNone, IfSome, IsSome};
+ghost use Rattle.std.specs.Prelude.{IsTrue, IsAscii, decimal};
 ghost use Rattle.std.specs.Str.Parse.{IsNumeral, starts_with_minus};
-ghost use Rattle.gixobj_actor.specs.Date.{IsOffset, DecodesToOffset, DecodesToSeconds, DecodesToTime, IsMalformedTime, encode_offset, seconds_digits, signed, encode_time, two_digits};
+ghost use Rattle.gixobj_actor.specs.Date.{IsOffset, DecodesToOffset, DecodesToSeconds, DecodesToTime, IsMalformedTime};
+ghost use Rattle.gixobj_actor.specs.Date.{encode_offset, seconds_digits, signed, encode_time, two_digits};
 ghost use Rattle.gixobj_hash.specs.Bytes.{space};
 
 use gixobj_hash::split::{are_digits, number_from_digits, split_at_byte};

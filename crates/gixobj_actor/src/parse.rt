@@ -1,7 +1,8 @@
 //! Decodes actors that fill their line, and copies them.
 ghost use Rattle.std.specs.Prelude.{◌≡◌, ℕ, List, IfErr, IfNone, IfOk, IfSome};
 ghost use Rattle.bstr.specs.BStr.{bstr_bytes};
-ghost use Rattle.gixobj_actor.specs.Actor.{IsActorLineOf, IsActorOf, IsNoActor, IsMalformedActorLine, IsOwnedActor, IsTrimmedActor, actor_view};
+ghost use Rattle.gixobj_actor.specs.Actor.{IsActorLineOf, IsActorOf, IsNoActor, IsMalformedActorLine, IsOwnedActor};
+ghost use Rattle.gixobj_actor.specs.Actor.{IsTrimmedActor, actor_view};
 ghost use Rattle.gixobj_hash.specs.declared.decode.Error.TheVariants.{Malformed};
 ghost use Rattle.gixobj_hash.specs.Bytes.{newline};
 ghost use Rattle.gixobj_hash.specs.ByteStrings.{IsByteFree};

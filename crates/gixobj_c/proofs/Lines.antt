@@ -11,7 +11,9 @@ use Rattle.gixobj_c.specs.declared.commits.CommitToken.{CommitToken}
 use Rattle.gixobj_hash.specs.HeaderFormat.{BeginsWithField, BeginsWithHeader, Header, encode_continuation}
 use Rattle.gixobj_hash.specs.FieldFormat.{encode_field, encode_line}
 use Rattle.gixobj_hash.specs.declared.hash.kind.Kind.{Kind}
-use Rattle.gixobj_grammar.specs.Lines.{BeginsWithLine, LineView, author_comes, author_line, committer_comes, committer_line, encoding_comes, encoding_line, first_header_comes, first_message_comes, header_comes, header_line, line_view, message_comes, message_line, parent_comes, parent_line, tree_comes, tree_line}
+use Rattle.gixobj_grammar.specs.Lines.{BeginsWithLine, LineView, author_comes, author_line, committer_comes, committer_line, encoding_comes, encoding_line}
+use Rattle.gixobj_grammar.specs.Lines.{first_header_comes, first_message_comes, header_comes, header_line, line_view, message_comes, message_line, parent_comes}
+use Rattle.gixobj_grammar.specs.Lines.{parent_line, tree_comes, tree_line}
 use Rattle.gixobj_grammar.specs.declared.lines.Line.{Line}
 use Rattle.gixobj_grammar.specs.declared.lines.State.{State}
 

@@ -11,7 +11,8 @@ use Rattle.gixobj_hash.specs.HeaderFormat.{BeginsWithField}
 use Rattle.gixobj_hash.specs.FieldFormat.{encode_field}
 use Rattle.gixobj_hash.specs.Kind.{kind_name}
 use Rattle.gixobj_hash.specs.declared.hash.kind.Kind.{Kind}
-use Rattle.gixobj_grammar.specs.TagTokens.{BeginsWithTagToken, TagTokenView, body_comes, body_token, kind_comes, name_comes, no_tagger_comes, tag_token_view, tagger_comes, target_comes}
+use Rattle.gixobj_grammar.specs.TagTokens.{BeginsWithTagToken, TagTokenView, body_comes, body_token, kind_comes, name_comes, no_tagger_comes, tag_token_view}
+use Rattle.gixobj_grammar.specs.TagTokens.{tagger_comes, target_comes}
 use Rattle.gixobj_grammar.specs.declared.tokens.State.{State}
 use Rattle.gixobj_grammar.specs.declared.tokens.Token.{Token}
 use Rattle.gixobj_grammar.specs.TagBodies.{IsBody, IsParted, after_a_newline, newlines_alone, signed, signed_at_once, unsigned}

@@ -1,5 +1,6 @@
 -- Calls about trailers, one after another: what they find are the trailers of the message.
-use Rattle.std.proofs.Common.{◌≡◌, ◌<◌, ◌≤◌, ◌-◌, ◌++◌, ◌∷◌, ◌⊎◌, ℕ, List, [], ap, append_assoc, arith, drop, inl, inr, length, length-append, refl, subst, sym, take, ◌∙◌}
+use Rattle.std.proofs.Common.{◌≡◌, ◌<◌, ◌≤◌, ◌-◌, ◌++◌, ◌∷◌, ◌⊎◌, ℕ, List, [], ap, append_assoc, arith, drop, inl, inr, length, length-append, refl, subst, sym}
+use Rattle.std.proofs.Common.{take, ◌∙◌}
 use Rattle.std.proofs.lemmas.List.{append-nil, length-drop, take_at}
 use Rattle.std.specs.Prelude.{false, true}
 use Rattle.bstr.proofs.lemmas.LineLemmas.{lines-nil}

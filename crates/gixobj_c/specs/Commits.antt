@@ -1,5 +1,6 @@
 -- Results of the call about the tokens of commits.
-use Rattle.std.specs.Prelude.{◌≡◌, ◌<◌, ◌≤◌, ◌+◌, ◌++◌, ◌==◌, ◌⊎◌, ℕ, All, List, Option, Some, None, drop, if◌then◌else◌, length}
+use Rattle.std.specs.Prelude.{◌≡◌, ◌<◌, ◌≤◌, ◌+◌, ◌++◌, ◌==◌, ◌⊎◌, ℕ, All, List, Option, Some, None, drop}
+use Rattle.std.specs.Prelude.{if◌then◌else◌, length}
 use Rattle.std.specs.List.{flat_map}
 use Rattle.gixobj_c_codes.specs.Codes.{at_end, bad_offset, done, malformed, out_of_memory, unknown_code}
 use Rattle.gixobj_c.specs.Spans.{IsEmptyAt, IsSpanBefore}
@@ -11,7 +12,8 @@ use Rattle.gixobj_hash.specs.Runs.{HasNoPiece}
 use Rattle.gixobj_hash.specs.Bytes.{newline}
 use Rattle.gixobj_hash.specs.ByteStrings.{IsByteFree}
 use Rattle.gixobj_hash.specs.declared.hash.kind.Kind.{Kind}
-use Rattle.gixobj_grammar.specs.Lines.{BeginsWithLine, LineView, NeedsAllocation, author_line, committer_line, encoding_line, header_line, message_line, parent_line, tree_line}
+use Rattle.gixobj_grammar.specs.Lines.{BeginsWithLine, LineView, NeedsAllocation, author_line, committer_line}
+use Rattle.gixobj_grammar.specs.Lines.{encoding_line, header_line, message_line, parent_line, tree_line}
 use Rattle.gixobj_grammar.specs.declared.lines.State.{State}
 use Rattle.gixobj_grammar.specs.declared.lines.State.TheVariants as state
 

@@ -1,5 +1,6 @@
 -- Results of the call about the tokens of tags.
-use Rattle.std.specs.Prelude.{◌≡◌, ◌<◌, ◌≤◌, ◌+◌, ◌==◌, ◌⊎◌, ℕ, List, Option, Some, None, codes, drop, if◌then◌else◌, length}
+use Rattle.std.specs.Prelude.{◌≡◌, ◌<◌, ◌≤◌, ◌+◌, ◌==◌, ◌⊎◌, ℕ, List, Option, Some, None, codes, drop, if◌then◌else◌}
+use Rattle.std.specs.Prelude.{length}
 use Rattle.gixobj_c_codes.specs.Codes.{at_end, bad_offset, done, malformed, unknown_code}
 use Rattle.gixobj_c.specs.Spans.{HasPieceBefore, IsEmptyAt, IsSpanBefore}
 use Rattle.gixobj_c.specs.declared.commits.Cursor.{Cursor}
@@ -8,7 +9,8 @@ use Rattle.gixobj_c.specs.declared.tags.TagToken.{TagToken}
 use Rattle.gixobj_hash.specs.HeaderFormat.{BeginsWithField}
 use Rattle.gixobj_hash.specs.Runs.{HasNoPiece}
 use Rattle.gixobj_hash.specs.declared.hash.kind.Kind.{Kind}
-use Rattle.gixobj_grammar.specs.TagTokens.{BeginsWithTagToken, TagTokenView, body_token, kind_token, name_token, no_tagger_token, tagger_token, target_token}
+use Rattle.gixobj_grammar.specs.TagTokens.{BeginsWithTagToken, TagTokenView, body_token, kind_token, name_token}
+use Rattle.gixobj_grammar.specs.TagTokens.{no_tagger_token, tagger_token, target_token}
 use Rattle.gixobj_grammar.specs.declared.tokens.State.{State}
 use Rattle.gixobj_grammar.specs.declared.tokens.State.TheVariants as state
 

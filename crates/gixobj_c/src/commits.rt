@@ -2,7 +2,8 @@
 ghost use Rattle.std.specs.Prelude.{◌≡◌, Some, drop};
 ghost use Rattle.bstr.specs.BStr.{bstr_bytes};
 ghost use Rattle.gixobj_c_codes.specs.Codes.{hash_of_code as hash_of};
-ghost use Rattle.gixobj_c.specs.Commits.{BeginsWithLineAt, IsCommitTokenCall, IsTokenOfLine, IsValueToken, state_of_code as state_of};
+ghost use Rattle.gixobj_c.specs.Commits.{BeginsWithLineAt, IsCommitTokenCall, IsTokenOfLine, IsValueToken};
+ghost use Rattle.gixobj_c.specs.Commits.{state_of_code as state_of};
 ghost use Rattle.gixobj_c.specs.Spans.{HasPieceBefore};
 ghost use Rattle.gixobj_hash.specs.HeaderFormat.{BeginsWithHeader};
 ghost use Rattle.gixobj_parse.specs.HeaderReading.{header_of};

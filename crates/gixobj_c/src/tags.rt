@@ -2,7 +2,8 @@
 ghost use Rattle.std.specs.Prelude.{◌≡◌, ℕ, List, Some, drop};
 ghost use Rattle.bstr.specs.BStr.{bstr_bytes};
 ghost use Rattle.gixobj_c_codes.specs.Codes.{hash_of_code as hash_of};
-ghost use Rattle.gixobj_c.specs.Tags.{BeginsWithTokenAt, HasBodyParts, IsFieldSpan, IsTagTokenCall, IsTokenOfBody, IsTokenOfTag, IsUnsigned, tag_state_of_code as state_of};
+ghost use Rattle.gixobj_c.specs.Tags.{BeginsWithTokenAt, HasBodyParts, IsFieldSpan, IsTagTokenCall, IsTokenOfBody};
+ghost use Rattle.gixobj_c.specs.Tags.{IsTokenOfTag, IsUnsigned, tag_state_of_code as state_of};
 ghost use Rattle.gixobj_hash.specs.HeaderFormat.{BeginsWithField};
 ghost use Rattle.gixobj_hash.specs.Optional.{bytes_if_some};
 ghost use Rattle.gixobj_grammar.specs.TagTokens.{tag_token_view};

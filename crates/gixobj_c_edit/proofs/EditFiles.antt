@@ -6,7 +6,8 @@ use Rattle.std.proofs.Math.Seq.{take-append_seam}
 use Rattle.std.specs.List.{flat_map}
 use Rattle.std.specs.Prelude.{Some, map}
 use Rattle.gixobj_editor_write.specs.declared.write.Written.{Written}
-use Rattle.gixobj_c_edit.specs.Edits.{AreEncodableIfDone, HasFilesAfter, HasFilesOfWrites, HasRun, IsCommandsOf, IsEdited, IsEmitted, IsStart, command_steps, write_of_root}
+use Rattle.gixobj_c_edit.specs.Edits.{AreEncodableIfDone, HasFilesAfter, HasFilesOfWrites, HasRun, IsCommandsOf, IsEdited, IsEmitted, IsStart, command_steps}
+use Rattle.gixobj_c_edit.specs.Edits.{write_of_root}
 use Rattle.gixobj_c_edit.specs.Replies.{AreDone, EndsInWrite}
 use Rattle.gixobj_c_edit.proofs.EditRuns.{IsDone, ends_in_write, lengths_before_last, run_encodable, steps_of_prefix}
 use Rattle.gixobj_editor.specs.Commands.{written_at, written_by}

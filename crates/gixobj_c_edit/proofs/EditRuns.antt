@@ -9,7 +9,8 @@ use Rattle.gixobj_editor_write.specs.declared.write.WriteError.TheVariants as wr
 use Rattle.gixobj_c_edit.specs.Edits.{command_steps, edit_steps, write_of_root}
 use Rattle.gixobj_c_edit.specs.Replies.{EndsInWrite, IsReplyToWrite, edit_reply_failure, edits_failure, or_later, reply_failure}
 use Rattle.gixobj_c_edit.specs.declared.failure.Failure.{Failure}
-use Rattle.gixobj_editor.specs.Commands.{Location, accepted_steps, at_cursor, at_root, emitted_pairs, pairs_of, pairs_of_edit, steps_of, steps_of_edit, steps_of_edits}
+use Rattle.gixobj_editor.specs.Commands.{Location, accepted_steps, at_cursor, at_root, emitted_pairs, pairs_of, pairs_of_edit, steps_of, steps_of_edit}
+use Rattle.gixobj_editor.specs.Commands.{steps_of_edits}
 use Rattle.gixobj_editor.specs.Cursors.{cursor_path}
 use Rattle.gixobj_editor.specs.Replies.{Answers, AreEditReplies, IsEditReply, IsReply, IsRun}
 use Rattle.gixobj_editor_commands.specs.Views.{command_view, edit_view}

@@ -1,5 +1,6 @@
 -- Frames of trees that follow each other.
-use Rattle.std.proofs.Common.{◌≡◌, ◌<◌, ◌≤◌, ◌+◌, ◌∷◌, ◌++◌, ◌∙◌, ◌⊎◌, All, Contains, List, [], ℕ, add-one, ap, append-nil, append_assoc, arith, get_or, inl, inr, length, refl, subst, suc, sym, take, zero}
+use Rattle.std.proofs.Common.{◌≡◌, ◌<◌, ◌≤◌, ◌+◌, ◌∷◌, ◌++◌, ◌∙◌, ◌⊎◌, All, Contains, List, [], ℕ, add-one, ap, append-nil, append_assoc, arith, get_or, inl}
+use Rattle.std.proofs.Common.{inr, length, refl, subst, suc, sym, take, zero}
 use Rattle.std.proofs.Math.Seq.{take-suc}
 use Rattle.std.proofs.lemmas.Grind.{flat_map-append}
 use Rattle.std.proofs.lemmas.List.{take_all}

@@ -1,10 +1,12 @@
 -- Frames that follow each other; the proofs of `split_frame`, `tree_header` and `store_of` use them.
-use Rattle.std.proofs.Common.{◌≡◌, ◌≢◌, ◌<◌, ◌-◌, ◌==◌, ◌∷◌, ◌++◌, ◌∙◌, ap, arith, drop, inl, inr, length, length-append, false, refl, sym, take, true, ℕ, List, []}
+use Rattle.std.proofs.Common.{◌≡◌, ◌≢◌, ◌<◌, ◌-◌, ◌==◌, ◌∷◌, ◌++◌, ◌∙◌, ap, arith, drop, inl, inr, length, length-append, false, refl, sym, take, true, ℕ, List}
+use Rattle.std.proofs.Common.{[]}
 use Rattle.std.proofs.lemmas.Bool.{eqb-true}
 use Rattle.std.proofs.lemmas.List.{length-drop, length-take-le}
 use Rattle.std.specs.FinMap as map
 use Rattle.std.specs.Prelude.{Err, None, Ok, Option, Result, Some}
-use Rattle.gixobj_c_edit.specs.Frames.{AreFrames, AreNoFrames, BeginsWithFrame, HoldsFrames, IsInserted, NextFrame, Parts, lossy_tree, objects_of, stored_tree, other_tree, with_contents}
+use Rattle.gixobj_c_edit.specs.Frames.{AreFrames, AreNoFrames, BeginsWithFrame, HoldsFrames, IsInserted, NextFrame, Parts, lossy_tree, objects_of, stored_tree}
+use Rattle.gixobj_c_edit.specs.Frames.{other_tree, with_contents}
 use Rattle.gixobj_c_edit.specs.declared.frames.Given.{Given}
 use Rattle.gixobj_hash.proofs.Runs.{begins_with_pieces_snoc, yields_of_begins_with_pieces}
 use Rattle.gixobj_hash.specs.Runs.{HasNoPiece, BeginsWithPieces, Yields, broken, complete, yields_end, yields_error}

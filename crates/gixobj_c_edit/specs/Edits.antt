@@ -1,5 +1,6 @@
 -- Results of the call that edits stored trees by a script.
-use Rattle.std.specs.Prelude.{◌≡◌, ◌<◌, ◌+◌, ◌++◌, ◌∷◌, ◌⊎◌, ℕ, All, Contains, List, [], None, Option, Some, length, map, take}
+use Rattle.std.specs.Prelude.{◌≡◌, ◌<◌, ◌+◌, ◌++◌, ◌∷◌, ◌⊎◌, ℕ, All, Contains, List, [], None, Option, Some, length}
+use Rattle.std.specs.Prelude.{map, take}
 use Rattle.std.specs.List.{flat_map}
 use Rattle.gixobj_c_codes.specs.Buffers.{HasPrefix, WritesTwo}
 use Rattle.gixobj_c_codes.specs.Codes.{buffer_too_short, unknown_code}
@@ -11,11 +12,13 @@ use Rattle.gixobj_c_edit.specs.Replies.{AreDone, IsFirstFailure, failure_ids}
 use Rattle.gixobj_c_edit.specs.Roots.{IsRootError, IsRootOf}
 use Rattle.gixobj_c_edit.specs.declared.failure.Failure.{Failure}
 use Rattle.gixobj_c_edit.specs.declared.failure.Failure.TheVariants as failure
-use Rattle.gixobj_editor.specs.Commands.{Location, accepted_steps, at_cursor, at_root, emitted_pairs, path_at, written_at}
+use Rattle.gixobj_editor.specs.Commands.{Location, accepted_steps, at_cursor, at_root, emitted_pairs, path_at}
+use Rattle.gixobj_editor.specs.Commands.{written_at}
 use Rattle.gixobj_editor.specs.Cursors.{cursor_path}
 use Rattle.gixobj_editor.specs.Replies.{IsRun}
 use Rattle.gixobj_editor.specs.RunTables.{AgreesWithRun}
-use Rattle.gixobj_editor_commands.specs.Views.{CommandView, EditView, command_view, edits_at, one_edit, remove, remove_leaf, set_root, upsert, write}
+use Rattle.gixobj_editor_commands.specs.Views.{CommandView, EditView, command_view, edits_at, one_edit, remove}
+use Rattle.gixobj_editor_commands.specs.Views.{remove_leaf, set_root, upsert, write}
 use Rattle.gixobj_editor_commands.specs.declared.command.Command.{Command}
 use Rattle.gixobj_editor_commands.specs.declared.command.Command.TheVariants as command
 use Rattle.gixobj_editor_commands.specs.declared.command.Edit.TheVariants as edit

@@ -1,6 +1,7 @@
 -- Why there are no new trees.
 use Rattle.std.specs.Prelude.{ℕ, List, None, Option, Some, []}
-use Rattle.gixobj_c_codes.specs.Codes.{bad_line, invalid_name, is_directory, malformed, malformed_tree, not_encodable, not_found, out_of_memory}
+use Rattle.gixobj_c_codes.specs.Codes.{bad_line, invalid_name, is_directory, malformed, malformed_tree, not_encodable}
+use Rattle.gixobj_c_codes.specs.Codes.{not_found, out_of_memory}
 use Rattle.gixobj_c_edit.specs.declared.failure.Failure.{Failure}
 use Rattle.gixobj_c_edit.specs.declared.failure.Failure.TheVariants as failure
 use Rattle.gixobj_editor_lookups.specs.declared.error.Error.{Error}

@@ -2,7 +2,9 @@
 ghost use Rattle.std.specs.Prelude.{◌≡◌, ◌++◌, ◌∷◌, [], List, IfErr, IfOk, Some};
 ghost use Rattle.gixobj_c_codes.specs.Codes.{hash_of_code as hash_of};
 ghost use Rattle.gixobj_editor_write.specs.declared.write.Written.{Written};
-ghost use Rattle.gixobj_c_edit.specs.Edits.{AreEncodableIfDone, HasFilesOfWrites, HasRun, IsCommandsOf, HasOwnId, IsEditCall, IsEditError, IsEdited, IsEmitted, IsFailedAt, IsRepliesError, IsScriptFailure, IsStart, IsStartError, WritesFailure, WritesIds};
+ghost use Rattle.gixobj_c_edit.specs.Edits.{AreEncodableIfDone, HasFilesOfWrites, HasRun, IsCommandsOf, HasOwnId};
+ghost use Rattle.gixobj_c_edit.specs.Edits.{IsEditCall, IsEditError, IsEdited, IsEmitted, IsFailedAt, IsRepliesError};
+ghost use Rattle.gixobj_c_edit.specs.Edits.{IsScriptFailure, IsStart, IsStartError, WritesFailure, WritesIds};
 ghost use Rattle.gixobj_c_edit.specs.Replies.{AreDone, EndsInWrite};
 ghost use Rattle.gixobj_editor.specs.declared.reply.EditReply.TheVariants as edit_reply;
 ghost use Rattle.gixobj_editor.specs.declared.reply.Reply.{Reply};

@@ -1,6 +1,7 @@
 //! Why there are no new trees.
 ghost use Rattle.std.specs.Prelude.{◌≡◌};
-ghost use Rattle.gixobj_c_edit.specs.Failures.{failure_status, given_failure, keep_failure, lookup_failure, edit_failure, encode_failure};
+ghost use Rattle.gixobj_c_edit.specs.Failures.{failure_status, given_failure, keep_failure, lookup_failure};
+ghost use Rattle.gixobj_c_edit.specs.Failures.{edit_failure, encode_failure};
 ghost use Rattle.gixobj_store_keep.specs.Memory.{memory_objects};
 
 use gixobj_c_codes::codes::{

@@ -1,7 +1,9 @@
 //! Trees as loose objects without compression, one after another: each is a frame (gitformat-loose).
 ghost use Rattle.std.specs.Prelude.{◌≡◌, ◌++◌, ℕ, All, IfErr, IfNone, IfOk, IfSome, OnOk, Some};
 ghost use Rattle.std.specs.List.{flat_map};
-ghost use Rattle.gixobj_c_edit.specs.Frames.{BeginsWithFrame, NextFrame, HoldsFrames, IsFrameError, IsFramesEncodeError, IsFramesError, IsInserted, encode_frame, encode_tree_frame};
+ghost use Rattle.gixobj_c_edit.specs.Frames.{BeginsWithFrame, NextFrame, HoldsFrames, IsFrameError};
+ghost use Rattle.gixobj_c_edit.specs.Frames.{IsFramesEncodeError, IsFramesError, IsInserted, encode_frame};
+ghost use Rattle.gixobj_c_edit.specs.Frames.{encode_tree_frame};
 ghost use Rattle.gixobj_c_edit.specs.Lossy.{IsLossless};
 ghost use Rattle.gixobj_c_edit.specs.declared.failure.Failure.TheVariants as failure;
 ghost use Rattle.gixobj_editor.specs.Commands.{emitted_pairs, pairs_of, pairs_of_edit};

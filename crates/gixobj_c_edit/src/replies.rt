@@ -1,6 +1,7 @@
 //! Replies to the commands of a script, and to the write after them.
 ghost use Rattle.std.specs.Prelude.{◌≡◌, ◌++◌, IfErr, IfOk, MatchOption, OnOk};
-ghost use Rattle.gixobj_c_edit.specs.Replies.{AreDone, IsFirstFailure, edit_reply_failure, edits_failure, missing_id, missing_ids, reply_failure, written_id};
+ghost use Rattle.gixobj_c_edit.specs.Replies.{AreDone, IsFirstFailure, edit_reply_failure, edits_failure, missing_id};
+ghost use Rattle.gixobj_c_edit.specs.Replies.{missing_ids, reply_failure, written_id};
 ghost use Rattle.gixobj_c_edit.specs.declared.failure.Failure.TheVariants as failure;
 ghost use Rattle.gixobj_store_keep.specs.Memory.{memory_objects};
 

@@ -1,5 +1,6 @@
 -- Findings that are written one after the other.
-use Rattle.std.proofs.Common.{add-one, ◌≡◌, ◌+◌, ◌-◌, ◌<◌, ◌≤◌, ℕ, Bool, List, [], ◌∷◌, ◌++◌, ◌∙◌, ap, append_assoc, arith, drop, get_or, length, map, slice_set, sym, take}
+use Rattle.std.proofs.Common.{add-one, ◌≡◌, ◌+◌, ◌-◌, ◌<◌, ◌≤◌, ℕ, Bool, List, [], ◌∷◌, ◌++◌, ◌∙◌, ap, append_assoc, arith, drop, get_or, length, map}
+use Rattle.std.proofs.Common.{slice_set, sym, take}
 use Rattle.std.proofs.Math.Seq.{drop-cons}
 use Rattle.std.proofs.lemmas.List.{length-map, length-take-le, map_more, set-append_right}
 use Rattle.gixobj_c_fsck.specs.Findings.{finding_parts}

@@ -4,7 +4,8 @@ use Rattle.std.proofs.Common.{◌≡◌, ◌∷◌, ℕ, List, [], ap, arith, in
 use Rattle.std.specs.List.{concat}
 use Rattle.std.specs.Prelude.{Some}
 use Rattle.gixobj_c_codes.specs.Buffers.{WritesBytes}
-use Rattle.gixobj_c_reencode.specs.Reencoding.{Allocates, IsFailure, IsReencodeCall, IsReencoded, IsUnencodable, RejectsSome, failure_of_decoding, failure_of_encoding}
+use Rattle.gixobj_c_reencode.specs.Reencoding.{Allocates, IsFailure, IsReencodeCall, IsReencoded, IsUnencodable, RejectsSome, failure_of_decoding}
+use Rattle.gixobj_c_reencode.specs.Reencoding.{failure_of_encoding}
 use Rattle.gixobj_c_reencode.specs.declared.reencoding.Failure.{Failure}
 use Rattle.gixobj_c_reencode.specs.declared.reencoding.Failure.TheVariants as failure
 use Rattle.gixobj_streams.specs.Streams.{SinkView}

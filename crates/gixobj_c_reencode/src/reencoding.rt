@@ -1,7 +1,8 @@
 //! Objects that are decoded and encoded again.
 ghost use Rattle.std.specs.Prelude.{◌≡◌, ◌≢◌, IfErr, IfOk, Some};
 ghost use Rattle.gixobj_c_codes.specs.Codes.{hash_of_code as hash_of, kind_of_code as kind_of};
-ghost use Rattle.gixobj_c_reencode.specs.Reencoding.{IsFailure, IsReencodeCall, IsReencoded, failure_of_decoding, failure_of_encoding};
+ghost use Rattle.gixobj_c_reencode.specs.Reencoding.{IsFailure, IsReencodeCall, IsReencoded, failure_of_decoding};
+ghost use Rattle.gixobj_c_reencode.specs.Reencoding.{failure_of_encoding};
 ghost use Rattle.gixobj_hash.specs.declared.kind.Kind.TheVariants as kind;
 ghost use Rattle.gixobj_hash.specs.declared.kind.Kind.TheVariants.{Blob};
 

@@ -1,5 +1,6 @@
 -- The lines of a check, and the numbers of objects at its end.
-use Rattle.std.specs.Prelude.{◌≡◌, ◌<◌, ◌+◌, ◌-◌, ℕ, Bool, List, [], ◌∷◌, ◌++◌, Option, None, Some, codes, decimal, if◌then◌else◌, length}
+use Rattle.std.specs.Prelude.{◌≡◌, ◌<◌, ◌+◌, ◌-◌, ℕ, Bool, List, [], ◌∷◌, ◌++◌, Option, None, Some, codes, decimal}
+use Rattle.std.specs.Prelude.{if◌then◌else◌, length}
 use Rattle.std.specs.List.{AllZip, flat_map, list_any, sum_by}
 use Rattle.gix_object.specs.Bytes.{newline}
 use Rattle.gix_object.specs.Hash.{encode_id_hex}

@@ -1,7 +1,8 @@
 //! The command that the arguments of the program name.
 ghost use Rattle.std.specs.Prelude.{[], ◌∷◌, ◌≢◌, IfErr, IfNone, IfSome, codes, map};
 ghost use Rattle.std.specs.String.{string_bytes};
-ghost use Rattle.gixobj_cli_batch.specs.Arguments.{IsArgumentsError, IsIdArgument, NamesCommand, NamesNoCommand, NamesNoId};
+ghost use Rattle.gixobj_cli_batch.specs.Arguments.{IsArgumentsError, IsIdArgument, NamesCommand, NamesNoCommand};
+ghost use Rattle.gixobj_cli_batch.specs.Arguments.{NamesNoId};
 
 use crate::fault::Fault;
 use gix_object::hash::ObjectId;

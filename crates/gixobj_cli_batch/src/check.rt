@@ -2,7 +2,8 @@
 ghost use Rattle.std.specs.Prelude.{◌≡◌, ◌≤◌, ◌++◌, ◌∷◌, [], IfErr, IfOk, OnOk, map};
 ghost use Rattle.gix_object.specs.Bytes.{newline};
 ghost use Rattle.gix_object.specs.Hash.{encode_id_hex};
-ghost use Rattle.gixobj_cli_batch.specs.CheckLines.{IsFaultOfCounts, PrintsCheck, checked_lines, count_line, fault_line, faulty_count, missing_count, other_line};
+ghost use Rattle.gixobj_cli_batch.specs.CheckLines.{IsFaultOfCounts, PrintsCheck, checked_lines, count_line};
+ghost use Rattle.gixobj_cli_batch.specs.CheckLines.{fault_line, faulty_count, missing_count, other_line};
 ghost use Rattle.gixobj_cli_batch.specs.declared.fault.Fault.TheVariants as program;
 ghost use Rattle.gixobj_records.specs.Records.{record_view};
 

@@ -4,7 +4,8 @@ ghost use Rattle.std.specs.List.{flat_map};
 ghost use Rattle.std.specs.Option.{option_map};
 ghost use Rattle.gix_object.specs.Memory.{memory_objects};
 ghost use Rattle.gix_object.specs.Mode.{kind_of_mode, mode_bits};
-ghost use Rattle.gixobj_cli_batch.specs.Lines.{change_letter, change_line, id_field_next_to, id_fields, mode_field, mode_fields, type_of_kind, version_view};
+ghost use Rattle.gixobj_cli_batch.specs.Lines.{change_letter, change_line, id_field_next_to, id_fields, mode_field};
+ghost use Rattle.gixobj_cli_batch.specs.Lines.{mode_fields, type_of_kind, version_view};
 ghost use Rattle.gixobj_cli_batch.specs.Reports.{IsDiffError, PrintsChanges};
 
 use crate::fault::Fault;

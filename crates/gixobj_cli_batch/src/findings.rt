@@ -1,7 +1,8 @@
 //! The lines of git's findings.
 ghost use Rattle.std.specs.Prelude.{◌≡◌, ◌++◌, OnOk};
 ghost use Rattle.std.specs.List.{flat_map, list_any};
-ghost use Rattle.gixobj_cli_batch.specs.FindingLines.{finding_head, finding_line, finding_tail, is_error, severity_label};
+ghost use Rattle.gixobj_cli_batch.specs.FindingLines.{finding_head, finding_line, finding_tail, is_error};
+ghost use Rattle.gixobj_cli_batch.specs.FindingLines.{severity_label};
 
 use crate::descriptions::message_description;
 use crate::lines::{push_id, push_number};

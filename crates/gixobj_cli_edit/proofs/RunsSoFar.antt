@@ -1,5 +1,6 @@
 -- Runs whose replies are reported one at a time: `edit_on` uses them.
-use Rattle.std.proofs.Common.{◌≡◌, ◌⊎◌, ◌∷◌, [], ◌++◌, List, OnErr, Option, Result, Some, inr, Vec, ap, append-nil, append_assoc, arith, length, map, refl, sym, ◌∙◌, ℕ}
+use Rattle.std.proofs.Common.{◌≡◌, ◌⊎◌, ◌∷◌, [], ◌++◌, List, OnErr, Option, Result, Some, inr, Vec, ap, append-nil, append_assoc, arith, length, map, refl, sym}
+use Rattle.std.proofs.Common.{◌∙◌, ℕ}
 use Rattle.std.specs.declared.alloc.Global.{Global}
 use Rattle.gixobj_editor.specs.Replies.{Answers, IsRun}
 use Rattle.gixobj_editor_commands.specs.Views.{command_view}

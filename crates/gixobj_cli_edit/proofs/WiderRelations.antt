@@ -18,7 +18,8 @@ use Rattle.gixobj_editor_files.specs.State.{State, open_bases, open_dirs}
 use Rattle.gixobj_hash.specs.declared.hash.object_id.ObjectId.{ObjectId}
 use Rattle.gixobj_tree_entries.specs.Entries.{EntryView, Pair}
 use Rattle.gixobj_editor.specs.Commands.{Location, at_cursor, at_root}
-use Rattle.gixobj_editor.specs.Replies.{Answers, AreEditReplies, Denies, ReturnsTreeId, IsEditReply, IsFailedWrite, IsReply, IsReplyAt, IsRun, IsWriteKept, IsWrittenAt, dirs_at}
+use Rattle.gixobj_editor.specs.Replies.{Answers, AreEditReplies, Denies, ReturnsTreeId, IsEditReply, IsFailedWrite, IsReply, IsReplyAt, IsRun, IsWriteKept}
+use Rattle.gixobj_editor.specs.Replies.{IsWrittenAt, dirs_at}
 use Rattle.gixobj_editor.specs.declared.reply.EditReply.{EditReply}
 use Rattle.gixobj_editor.specs.declared.reply.EditReply.TheVariants as edit_reply
 use Rattle.gixobj_editor.specs.declared.reply.Reply.{Reply}

@@ -1,7 +1,8 @@
 //! Reports of the replies to a script, as lines.
 ghost use Rattle.std.specs.Prelude.{◌≡◌, ◌∷◌, ◌++◌, [], List, IfOk, OnOk};
 ghost use Rattle.std.specs.List.{flat_map};
-ghost use Rattle.gixobj_cli_edit.specs.Reporting.{edit_reply_line, edit_reply_bytes, edit_error_line, AreLinesOf, lookups_line, reply_lines, report_lines_of};
+ghost use Rattle.gixobj_cli_edit.specs.Reporting.{edit_reply_line, edit_reply_bytes, edit_error_line, AreLinesOf};
+ghost use Rattle.gixobj_cli_edit.specs.Reporting.{lookups_line, reply_lines, report_lines_of};
 ghost use Rattle.gixobj_editor.specs.declared.reply.Reply.{Reply};
 ghost use Rattle.gixobj_hash.specs.FieldFormat.{encode_line};
 

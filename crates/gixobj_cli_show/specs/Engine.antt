@@ -8,7 +8,8 @@ use Rattle.gixobj_cli_show.specs.Failure.{BeginsWithNoLooseHeader, exit_status_o
 use Rattle.gixobj_cli_show.specs.Show.{IsShowLine}
 use Rattle.gixobj_cli_show.specs.Arguments.{IsCommand, IsOtherCommand, IsCommandOfHash}
 use Rattle.gixobj_cli_show.specs.declared.failure.Failure.{Failure}
-use Rattle.gixobj_cli_show.specs.declared.failure.Failure.TheVariants.{Usage, InputFailed, OutputFailed, OutOfMemory, BadHeader, ShortData}
+use Rattle.gixobj_cli_show.specs.declared.failure.Failure.TheVariants.{Usage, InputFailed, OutputFailed, OutOfMemory}
+use Rattle.gixobj_cli_show.specs.declared.failure.Failure.TheVariants.{BadHeader, ShortData}
 
 -- these bytes were all the remaining ones, and now none remains
 abbrev pub ReadsAll : Option (List ℕ) → Option (List ℕ) → List ℕ → Type 0

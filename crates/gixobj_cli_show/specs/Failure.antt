@@ -6,7 +6,8 @@ use Rattle.gixobj_hash.specs.declared.decode.LooseContentError.TheVariants.{Head
 use Rattle.gixobj_hash.specs.declared.decode.LooseHeaderDecodeError.TheVariants as header
 use Rattle.gixobj_hash.specs.declared.kind.Kind.{Kind}
 use Rattle.gixobj_cli_show.specs.declared.failure.Failure.{Failure}
-use Rattle.gixobj_cli_show.specs.declared.failure.Failure.TheVariants.{Usage, InputFailed, OutputFailed, OutOfMemory, BadHeader, ShortData, NotATree, BadTree}
+use Rattle.gixobj_cli_show.specs.declared.failure.Failure.TheVariants.{Usage, InputFailed, OutputFailed, OutOfMemory}
+use Rattle.gixobj_cli_show.specs.declared.failure.Failure.TheVariants.{BadHeader, ShortData, NotATree, BadTree}
 use Rattle.gixobj_hash.specs.FieldFormat.{encode_line}
 
 -- the input does not begin with a loose header

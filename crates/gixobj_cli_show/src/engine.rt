@@ -1,7 +1,8 @@
 //! The command `show`, over any reader and any two writers.
 ghost use Rattle.std.specs.Prelude.{◌≡◌, ◌≢◌, map, OnOk, IfErr, ⊤};
 ghost use Rattle.std.specs.String.{string_bytes};
-ghost use Rattle.gixobj_cli_show.specs.Engine.{Answered, IsReportedError, IsAnswerError, IsPrinted, HasReadNothing, HasWrittenNothing};
+ghost use Rattle.gixobj_cli_show.specs.Engine.{Answered, IsReportedError, IsAnswerError, IsPrinted, HasReadNothing};
+ghost use Rattle.gixobj_cli_show.specs.Engine.{HasWrittenNothing};
 ghost use Rattle.gixobj_streams.specs.Streams.{writer_view};
 ghost use Rattle.gixobj_cli_show.specs.Failure.{line_of, exit_status_of};
 

@@ -16,7 +16,8 @@ use Rattle.gixobj_cli_show.specs.Engine.{ReadsAll, IsPrinted, HasWrittenNothing}
 use Rattle.gixobj_cli_show.specs.Failure.{BeginsWithNoLooseHeader, exit_status_of, line_of}
 use Rattle.gixobj_cli_show.specs.Arguments.{IsCommand, IsCommandOfHash}
 use Rattle.gixobj_cli_show.specs.declared.failure.Failure.{Failure}
-use Rattle.gixobj_cli_show.specs.declared.failure.Failure.TheVariants.{BadHeader, BadTree, InputFailed, NotATree, OutOfMemory, OutputFailed, ShortData}
+use Rattle.gixobj_cli_show.specs.declared.failure.Failure.TheVariants.{BadHeader, BadTree, InputFailed, NotATree}
+use Rattle.gixobj_cli_show.specs.declared.failure.Failure.TheVariants.{OutOfMemory, OutputFailed, ShortData}
 
 -- the arguments request the list of a tree
 abbrev pub IsListCommand : List (List ℕ) → Type 0

@@ -1,5 +1,6 @@
 -- Searches of headers that an iterator yields from a list: for the laws on searches of headers, and `MergetagsFound`.
-use Rattle.std.proofs.Common.{◌≡◌, ◌≢◌, ℕ, Bool, List, [], ◌∷◌, ◌++◌, map, Option, None, Some, append_assoc, arith, length, length-append, true, false, cond, refl, sym, ap, subst, ◌∙◌}
+use Rattle.std.proofs.Common.{◌≡◌, ◌≢◌, ℕ, Bool, List, [], ◌∷◌, ◌++◌, map, Option, None, Some, append_assoc, arith, length, length-append, true, false, cond}
+use Rattle.std.proofs.Common.{refl, sym, ap, subst, ◌∙◌}
 use Rattle.std.proofs.lemmas.Iterator.{YieldsList}
 use Rattle.std.proofs.lemmas.Iterator.Consumers.{YieldsList-from_shown}
 use Rattle.std.proofs.lemmas.List.{append-nil, length-map}
@@ -11,7 +12,8 @@ use Rattle.std.specs.Str.{bytes_eq}
 use Rattle.bstr.specs.BStr.{bstr_bytes}
 use Rattle.bstr.specs.declared.bstr.BStr.{BStr}
 use Rattle.gixobj_hash.specs.HeaderFormat.{Header}
-use Rattle.gixobj_commit.specs.ExtraHeaders.{FindsPosition, FindsValue, Gave, NextOfAll, HasFirstHeader, IsFirstPosition, IsFirstValue, HasNoHeaderNamed, header_at, pair_of, searched, searched_name, values_named}
+use Rattle.gixobj_commit.specs.ExtraHeaders.{FindsPosition, FindsValue, Gave, NextOfAll, HasFirstHeader, IsFirstPosition, IsFirstValue, HasNoHeaderNamed}
+use Rattle.gixobj_commit.specs.ExtraHeaders.{header_at, pair_of, searched, searched_name, values_named}
 use Rattle.gixobj_commit.specs.declared.extra_headers.FindAll.{FindAll}
 
 -- ---- values in a list of headers

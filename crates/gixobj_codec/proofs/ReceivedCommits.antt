@@ -1,6 +1,7 @@
 -- States what a signature that is found in the encoding of a commit signs, and that one is found if the commit has one,
 -- for the laws on received and on signed commits.
-use Rattle.std.proofs.Common.{◌≡◌, ◌≢◌, ◌⊎◌, inl, inr, ℕ, List, [], ◌∷◌, ◌++◌, ◌∙◌, Bool, true, false, All, Option, Some, None, append_assoc, ap, arith, refl, subst, sym}
+use Rattle.std.proofs.Common.{◌≡◌, ◌≢◌, ◌⊎◌, inl, inr, ℕ, List, [], ◌∷◌, ◌++◌, ◌∙◌, Bool, true, false, All, Option, Some, None, append_assoc, ap, arith, refl}
+use Rattle.std.proofs.Common.{subst, sym}
 use Rattle.std.proofs.lemmas.List.{append_cancel_right}
 use Rattle.std.proofs.lemmas.List.Elements.{All-append, All-cons, All-head, All-nil, All-tail}
 use Rattle.std.specs.Cmp.Lexicographic.{bytes_decides}
@@ -19,11 +20,13 @@ use Rattle.gixobj_grammar.proofs.EntireCommits.{reaches_end, reaches_more}
 use Rattle.gixobj_grammar.proofs.LinesYielded.{yields_lines_of_commit}
 use Rattle.gixobj_grammar.proofs.OneLine.{no_header_of_newline}
 use Rattle.gixobj_grammar.specs.Commit.{CommitLines, DecodesToCommit, DecodesToHeaders, IsCommit, encoding_lines, lines_of_commit}
-use Rattle.gixobj_grammar.specs.Lines.{BeginsWithLine, LineView, author_line, committer_line, encoding_line, first_header_comes, header_comes, header_line, message_comes, message_line, parent_line, tree_line}
+use Rattle.gixobj_grammar.specs.Lines.{BeginsWithLine, LineView, author_line, committer_line, encoding_line, first_header_comes, header_comes, header_line}
+use Rattle.gixobj_grammar.specs.Lines.{message_comes, message_line, parent_line, tree_line}
 use Rattle.gixobj_grammar.specs.declared.lines.State.{State}
 use Rattle.gixobj_grammar.specs.declared.lines.State.TheVariants as state
 use Rattle.gixobj_grammar.specs.CommitHeaders.{IsNamedLine}
-use Rattle.gixobj_codec.proofs.CommitsExtracted.{Blocks, before_header, blocks_append, encodings_join, header_here, message_follows, payload_extracted, signature_split_unique, unlike_name, value_extracted}
+use Rattle.gixobj_codec.proofs.CommitsExtracted.{Blocks, before_header, blocks_append, encodings_join, header_here, message_follows, payload_extracted}
+use Rattle.gixobj_codec.proofs.CommitsExtracted.{signature_split_unique, unlike_name, value_extracted}
 use Rattle.gixobj_codec.proofs.SameParts.{has_same_parts, leading, leading_blocks, line_fields_of_decoded}
 use Rattle.gixobj_codec.proofs.SignaturesFound.{ends_before_tail, none_there, signature_is_there}
 use Rattle.gixobj_codec.specs.LineFields.{HasHeaderNames, HasLineFields}

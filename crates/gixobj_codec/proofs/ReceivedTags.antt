@@ -20,7 +20,8 @@ use Rattle.gixobj_tag.specs.TagSigning.{payload_of_tag, signed_as}
 use Rattle.gixobj_tag.specs.TagWriting.{encode_tag}
 use Rattle.gixobj_parse.proofs.MarkerPlaces.{no_marker_and_marker_place}
 use Rattle.gixobj_parse.specs.declared.signature.Format.{Format}
-use Rattle.gixobj_codec.proofs.TagsAgree.{AreAfter, IsFoundIn, after_lines, after_newline_alone, also_after, lines_joined, no_marker_in_newlines, one_signature, tag_found}
+use Rattle.gixobj_codec.proofs.TagsAgree.{AreAfter, IsFoundIn, after_lines, after_newline_alone, also_after, lines_joined, no_marker_in_newlines, one_signature}
+use Rattle.gixobj_codec.proofs.TagsAgree.{tag_found}
 use Rattle.gixobj_codec.proofs.TagsExtracted.{prefix_of_append_eq, has_marker_at_after_prefix, signed_tag_bytes}
 use Rattle.gixobj_codec.specs.ReceivedSignatures.{HasSameLines, SignsTag}
 

@@ -10,7 +10,8 @@ use Rattle.gixobj_actor.specs.ActorWriting.{IsUnwritable}
 use Rattle.gixobj_hash.specs.Hash.{DecodesToId, encode_id_hex}
 use Rattle.gixobj_hash.specs.HeaderFormat.{Header}
 use Rattle.gixobj_streams.specs.Streams.{SinkView}
-use Rattle.gixobj_streams.specs.Writing.{RejectedValue, IsWritingError, bad_name, empty_header, header_with_newline, illegal_actor, name_with_dash, name_with_zero_byte}
+use Rattle.gixobj_streams.specs.Writing.{RejectedValue, IsWritingError, bad_name, empty_header, header_with_newline, illegal_actor, name_with_dash}
+use Rattle.gixobj_streams.specs.Writing.{name_with_zero_byte}
 use Rattle.gixobj_hash.specs.declared.decode.Error.TheVariants.{Malformed}
 use Rattle.gixobj_streams.specs.declared.encode.Error.{Error}
 use Rattle.gixobj_streams.specs.declared.encode.Error.TheVariants as encode

@@ -16,8 +16,10 @@ use Rattle.gixobj_hash.specs.Hash.Hex.{IsIdHexOfKind}
 use Rattle.gixobj_hash.specs.declared.hash.kind.Kind.{Kind}
 use Rattle.gixobj_grammar.proofs.LinesYielded.{has_field_of_encode_field, yields_lines_of_commit}
 use Rattle.gixobj_grammar.proofs.OneLine.{line_unique, no_header_of_newline, no_line_of_nil}
-use Rattle.gixobj_grammar.specs.Commit.{CommitLines, DecodesToCommit, DecodesToHeaders, IsEncoding, before_encoding, encode_encoding, encode_parent, encoding_lines, lines_of_commit}
-use Rattle.gixobj_grammar.specs.Lines.{BeginsWithLine, LineView, author_comes, author_line, committer_comes, committer_line, header_line, message_line, parent_comes, parent_line, tree_comes, tree_line}
+use Rattle.gixobj_grammar.specs.Commit.{CommitLines, DecodesToCommit, DecodesToHeaders, IsEncoding, before_encoding, encode_encoding, encode_parent}
+use Rattle.gixobj_grammar.specs.Commit.{encoding_lines, lines_of_commit}
+use Rattle.gixobj_grammar.specs.Lines.{BeginsWithLine, LineView, author_comes, author_line, committer_comes, committer_line, header_line, message_line}
+use Rattle.gixobj_grammar.specs.Lines.{parent_comes, parent_line, tree_comes, tree_line}
 use Rattle.gixobj_grammar.specs.declared.lines.State.{State}
 use Rattle.gixobj_grammar.specs.declared.lines.State.TheVariants as state
 use Rattle.gixobj_codec.proofs.CommitsExtracted.{Blocks, blocks_append, encoding_blocks, encodings_join, prefix_blocks}

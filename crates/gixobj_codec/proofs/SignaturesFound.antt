@@ -16,7 +16,9 @@ use Rattle.gixobj_grammar.specs.Commit.{DecodesToHeaders, CommitLines, DecodesTo
 use Rattle.gixobj_grammar.specs.Lines.{BeginsWithLine, LineView}
 use Rattle.gixobj_grammar.specs.declared.lines.State.{State}
 use Rattle.gixobj_grammar.specs.declared.lines.State.TheVariants as state
-use Rattle.gixobj_codec.proofs.CommitsExtracted.{Blocks, IsBlockLine, block_line_of_header, has_header_last, has_header_before_last, ends_header_append, blocks_append, blocks_nil, read_again, signature_field_is_header_name, signed_payload, the_header, unsigned_prefix, written_blocks, encode_header_decodes}
+use Rattle.gixobj_codec.proofs.CommitsExtracted.{Blocks, IsBlockLine, block_line_of_header, has_header_last, has_header_before_last, ends_header_append}
+use Rattle.gixobj_codec.proofs.CommitsExtracted.{blocks_append, blocks_nil, read_again, signature_field_is_header_name, signed_payload, the_header}
+use Rattle.gixobj_codec.proofs.CommitsExtracted.{unsigned_prefix, written_blocks, encode_header_decodes}
 use Rattle.gixobj_grammar.specs.CommitHeaders.{IsNamedLine}
 use Rattle.gixobj_commit.specs.CommitSigning.{with_signature}
 use Rattle.gixobj_codec.specs.LineFields.{HasHeaderNames, HasLineFields}

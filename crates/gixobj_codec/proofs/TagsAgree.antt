@@ -1,7 +1,8 @@
 -- States that the signature of a decoded tag is the one that is found in its encoding, for the law
 -- `tag_signatures_agree`. No line before the body begins with a marker, so the last marker of the encoding is that of
 -- the body.
-use Rattle.std.proofs.Common.{◌≡◌, ◌≢◌, ◌∙◌, ◌≤◌, ◌+◌, ◌-◌, ap, arith, inl, inr, refl, subst, sym, ℕ, List, [], ◌∷◌, ◌++◌, ◌==◌, ◌&&◌, Bool, true, false, IsTrue, Option, Some, None, IfSome, IfNone, append_assoc, append-nil, codes, length, length-append}
+use Rattle.std.proofs.Common.{◌≡◌, ◌≢◌, ◌∙◌, ◌≤◌, ◌+◌, ◌-◌, ap, arith, inl, inr, refl, subst, sym, ℕ, List, [], ◌∷◌, ◌++◌, ◌==◌, ◌&&◌, Bool, true, false}
+use Rattle.std.proofs.Common.{IsTrue, Option, Some, None, IfSome, IfNone, append_assoc, append-nil, codes, length, length-append}
 use Rattle.std.proofs.lemmas.List.Folds.{list_all-append}
 use Rattle.std.proofs.lemmas.List.Elements.{All-append, All-cons, All-head, All-tail}
 use Rattle.bstr.specs.BStr.{bstr_bytes}
@@ -9,7 +10,8 @@ use Rattle.gixobj_hash.specs.FieldFormat.{encode_field}
 use Rattle.gixobj_hash.specs.Kind.{kind_name}
 use Rattle.gixobj_hash.specs.declared.hash.kind.Kind.{Kind}
 use Rattle.gixobj_parse.proofs.MarkerPlaces.{no_marker_and_marker_place, format_of_marker_unique, marker_place_unique}
-use Rattle.gixobj_parse.specs.Markers.{BeginsWithMarker, HasNoMarker, IsMarkerOf, IsMarkerPlace, HasMarkerAt, StartsLine, pgp_message, pgp_signature, signed_message, ssh_signature}
+use Rattle.gixobj_parse.specs.Markers.{BeginsWithMarker, HasNoMarker, IsMarkerOf, IsMarkerPlace, HasMarkerAt, StartsLine, pgp_message, pgp_signature}
+use Rattle.gixobj_parse.specs.Markers.{signed_message, ssh_signature}
 use Rattle.gixobj_parse.specs.declared.signature.Format.{Format}
 use Rattle.gixobj_parse.specs.declared.signature.SignatureRef.{SignatureRef}
 use Rattle.gixobj_tokens.specs.TagExtracting.{FindsSignatureOfTag}

@@ -1,13 +1,15 @@
 -- Content decodes to a trailer if and only if `trailer_parts` finds these parts; the law `trailer_line_decodes` uses
 -- it.
-use Rattle.std.proofs.Common.{◌+◌, ◌≡◌, ◌≢◌, ◌++◌, ◌∷◌, ◌∙◌, ◌==◌, ◌||◌, ap, append_assoc, arith, drop, length, subst, sym, refl, ℕ, Bool, true, false, cond, List, [], Option, Some, None}
+use Rattle.std.proofs.Common.{◌+◌, ◌≡◌, ◌≢◌, ◌++◌, ◌∷◌, ◌∙◌, ◌==◌, ◌||◌, ap, append_assoc, arith, drop, length, subst, sym, refl, ℕ, Bool, true, false, cond}
+use Rattle.std.proofs.Common.{List, [], Option, Some, None}
 use Rattle.std.proofs.lemmas.Bool.Decides.{nat_tests}
 use Rattle.std.proofs.lemmas.List.{drop_at, take-append-drop, take_at}
 use Rattle.std.proofs.lemmas.List.Elements.{All-head}
 use Rattle.std.specs.List.{AllPass, prefix_len, take_while}
 use Rattle.gixobj_hash.specs.ByteStrings.{is_filled}
 use Rattle.gixobj_text.proofs.LongestPrefixes.{prefix_len_append, take_while_all_pass}
-use Rattle.gixobj_text.specs.BodyLines.{DecodesToTrailer, TrailerParts, after_colon, after_gap, after_token, is_gap_byte, is_token_byte, trailer_parts, with_value}
+use Rattle.gixobj_text.specs.BodyLines.{DecodesToTrailer, TrailerParts, after_colon, after_gap, after_token, is_gap_byte, is_token_byte, trailer_parts}
+use Rattle.gixobj_text.specs.BodyLines.{with_value}
 
 eq_of_eqb : (a b : ℕ) → (a == b) ≡ true → a ≡ b
 eq_of_eqb a b is = grind (arith, nat_tests)

@@ -1,6 +1,7 @@
 -- A message has at most one title, one body and one list of trailers, and a body at most one block start; the laws of
 -- messages use these lemmas.
-use Rattle.std.proofs.Common.{◌++◌, ◌+◌, ◌∙◌, ◌∷◌, ◌≡◌, ◌≢◌, ◌≤◌, List, None, Option, Some, [], ap, append_assoc, arith, drop, inl, inr, length, length-append, refl, subst, sym, zero-add, ℕ}
+use Rattle.std.proofs.Common.{◌++◌, ◌+◌, ◌∙◌, ◌∷◌, ◌≡◌, ◌≢◌, ◌≤◌, List, None, Option, Some, [], ap, append_assoc, arith, drop, inl, inr, length, length-append}
+use Rattle.std.proofs.Common.{refl, subst, sym, zero-add, ℕ}
 use Rattle.std.specs.List.{concat}
 use Rattle.bstr.specs.Text.{lines_of}
 use Rattle.gixobj_text.specs.LineBreaks.{after_two_breaks}

@@ -1,7 +1,8 @@
 //! Laws on the payloads of signed commits and tags (gitformat-signature). Two functions sign, and their
 //! contracts state the result; the others compute nothing, and their contract is the law.
 ghost use Rattle.std.specs.Prelude.{◌≡◌, ℕ, IfErr, IfNone, IfOk, IfSome, List, Option, Some};
-ghost use Rattle.gixobj_commit.specs.CommitSigning.{IsCommitSigningError, IsSignedCommit, payload_of_commit, with_signature};
+ghost use Rattle.gixobj_commit.specs.CommitSigning.{IsCommitSigningError, IsSignedCommit, payload_of_commit};
+ghost use Rattle.gixobj_commit.specs.CommitSigning.{with_signature};
 ghost use Rattle.gixobj_commit.specs.CommitViews.{owned_commit_lines};
 ghost use Rattle.gixobj_commit.specs.CommitWriting.{IsOwnedCommitError, encode_commit};
 ghost use Rattle.gixobj_streams.specs.Writing.{RejectsNothing};
@@ -12,7 +13,8 @@ ghost use Rattle.gixobj_grammar.specs.Commit.{CommitLines, DecodesToCommit, IsCo
 ghost use Rattle.gixobj_codec.specs.SameSignatures.{AreSameSignatures};
 ghost use Rattle.gixobj_codec.specs.LineFields.{HasHeaderNames, HasLineFields};
 ghost use Rattle.gixobj_codec.specs.OneMarker.{HasOneMarker};
-ghost use Rattle.gixobj_codec.specs.SignedEncodings.{CommitPayloadIsSigned, FindsSigned, FindsTagSignature, TagPayloadIsSigned, decoded_value};
+ghost use Rattle.gixobj_codec.specs.SignedEncodings.{CommitPayloadIsSigned, FindsSigned, FindsTagSignature};
+ghost use Rattle.gixobj_codec.specs.SignedEncodings.{TagPayloadIsSigned, decoded_value};
 ghost use Rattle.gixobj_parse.specs.Markers.{HasNoMarker};
 ghost use Rattle.gixobj_parse.specs.declared.signature.Format.{Format};
 ghost use Rattle.gixobj_parse.specs.declared.signature.SignatureRef.{SignatureRef};

@@ -3,7 +3,8 @@
 use Rattle.std.proofs.Common.{◌≡◌, ◌∙◌, ap, inl, inr, refl, subst, Bool, true, false, cond, List, [], ◌∷◌, ℕ, map, IfErr, IfOk, Result, Ok, Err}
 use Rattle.std.specs.List.{filter}
 use Rattle.gixobj_commit.specs.CommitOwned.{IsOwnedFormOfCommit}
-use Rattle.gixobj_commit.specs.CommitSigning.{GetsCommitSignature, IsSignedCommit, IsSignedCommitCopy, IsCommitSigningError, IsCommitCopySigningError, IsCommitEncodingError, payload_of_commit, with_last_header, without_headers}
+use Rattle.gixobj_commit.specs.CommitSigning.{GetsCommitSignature, IsSignedCommit, IsSignedCommitCopy, IsCommitSigningError, IsCommitCopySigningError}
+use Rattle.gixobj_commit.specs.CommitSigning.{IsCommitEncodingError, payload_of_commit, with_last_header, without_headers}
 use Rattle.gixobj_commit.specs.CommitViews.{owned_commit_lines}
 use Rattle.gixobj_commit.specs.CommitWriting.{IsOwnedCommitError, encode_commit}
 use Rattle.gixobj_commit.specs.declared.commit.Commit.{Commit}

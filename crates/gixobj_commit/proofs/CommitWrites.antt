@@ -1,6 +1,7 @@
 -- States that the encoding of a commit is the concatenation of its written parts, for `write_into` and `size` of both
 -- commit types.
-use Rattle.std.proofs.Common.{◌≡◌, ℕ, List, [], ◌∷◌, ◌++◌, ◌+◌, ◌≤◌, ◌⊎◌, All, Option, map, refl, ap, arith, sym, subst, ◌∙◌, append_assoc, codes, inl, inr, ⊎_elim, length, length-append}
+use Rattle.std.proofs.Common.{◌≡◌, ℕ, List, [], ◌∷◌, ◌++◌, ◌+◌, ◌≤◌, ◌⊎◌, All, Option, map, refl, ap, arith, sym, subst, ◌∙◌, append_assoc, codes, inl, inr}
+use Rattle.std.proofs.Common.{⊎_elim, length, length-append}
 use Rattle.std.specs.List.{flat_map}
 use Rattle.std.specs.Str.{str_to_ascii_lowercase}
 use Rattle.std.specs.declared.alloc.Global.{Global}
@@ -23,7 +24,8 @@ use Rattle.gixobj_commit.proofs.PartSteps.{IsInParts, in_parts}
 use Rattle.gixobj_grammar.specs.Commit.{before_encoding, encode_encoding, encode_ids, encode_parent}
 use Rattle.gixobj_commit.specs.CommitViews.{commit_lines, owned_commit_lines}
 use Rattle.gixobj_hash.specs.Optional.{bytes_if_some, owned_bytes_if_some}
-use Rattle.gixobj_commit.specs.CommitWriting.{IsMessageEncodingError, IsCommitLinesError, IsOwnedCommitError, encode_commit, hex_parent, in_lower_case, IsEncodingLineError}
+use Rattle.gixobj_commit.specs.CommitWriting.{IsMessageEncodingError, IsCommitLinesError, IsOwnedCommitError, encode_commit, hex_parent, in_lower_case}
+use Rattle.gixobj_commit.specs.CommitWriting.{IsEncodingLineError}
 use Rattle.gixobj_encode.specs.FieldWriting.{encode_header}
 use Rattle.gixobj_commit.specs.declared.commit.Commit.{Commit}
 use Rattle.gixobj_commit.specs.declared.commit.CommitRef.{CommitRef}

@@ -33,7 +33,8 @@ use Rattle.gixobj_editor_lookups.specs.FailedOpenings.{edit_error}
 use Rattle.gixobj_editor_lookups.specs.declared.error.Error.{Error}
 use Rattle.gixobj_editor_lookups.specs.declared.error.Error.TheVariants as error
 use Rattle.gixobj_editor_lookups.proofs.ValidNames.{no_other_error}
-use Rattle.gixobj_editor.proofs.Edited.{EditedSo, OpenedOn, OpenedSo, map_is_opened, no_tree_is_idle, map_dirs_at, edited_bases_of_map, tree_known_above, map_bases, map_dirs, map_is_opened_on, map_dirs_eq, state_of}
+use Rattle.gixobj_editor.proofs.Edited.{EditedSo, OpenedOn, OpenedSo, map_is_opened, no_tree_is_idle, map_dirs_at, edited_bases_of_map, tree_known_above}
+use Rattle.gixobj_editor.proofs.Edited.{map_bases, map_dirs, map_is_opened_on, map_dirs_eq, state_of}
 use Rattle.gixobj_editor_files.proofs.Calls.{ensured_based}
 use Rattle.gixobj_editor_lookups.proofs.Paths.{prefix_extends}
 

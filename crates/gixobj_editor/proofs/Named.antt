@@ -20,7 +20,8 @@ use Rattle.gixobj_editor_files.specs.State.{EditorFiles, State, open_bases, open
 use Rattle.gixobj_tree_entries.specs.Entries.{Pair}
 use Rattle.gixobj_editor_files.specs.Tables.{AgreesWithPairs, AgreesWithStore}
 use Rattle.gixobj_store_keep.specs.Keeping.{with_trees}
-use Rattle.gixobj_editor.specs.Commands.{Location, accepted_steps, at_cursor, at_root, kept_of, kept_of_edit, emitted_pairs, kept_pairs, pairs_of, pairs_of_edit, pairs_of_write, steps_at, steps_of, steps_of_edit, steps_of_edits, written_at, written_by}
+use Rattle.gixobj_editor.specs.Commands.{Location, accepted_steps, at_cursor, at_root, kept_of, kept_of_edit, emitted_pairs, kept_pairs, pairs_of}
+use Rattle.gixobj_editor.specs.Commands.{pairs_of_edit, pairs_of_write, steps_at, steps_of, steps_of_edit, steps_of_edits, written_at, written_by}
 use Rattle.gixobj_editor.specs.Replies.{Answers, AreEditReplies, IsEditReply, IsReply, IsReplyAt, IsRun, IsWriteKept, IsWrittenAt}
 use Rattle.gixobj_editor.specs.RunTables.{AgreesWithObjects, AgreesWithRun}
 use Rattle.gixobj_editor.specs.declared.reply.EditReply.{EditReply}
@@ -28,7 +29,8 @@ use Rattle.gixobj_editor.specs.declared.reply.EditReply.TheVariants as edit_repl
 use Rattle.gixobj_editor.specs.declared.reply.Reply.{Reply}
 use Rattle.gixobj_editor.specs.declared.reply.Reply.TheVariants as reply
 use Rattle.gixobj_editor_files.proofs.Histories.{history_append_same_files}
-use Rattle.gixobj_editor.proofs.Keeping.{AgreesThroughout, agrees_with_prefix, agrees_with_suffix, with_trees_append_stored, agrees_throughout_prefix, agrees_throughout_suffix}
+use Rattle.gixobj_editor.proofs.Keeping.{AgreesThroughout, agrees_with_prefix, agrees_with_suffix, with_trees_append_stored, agrees_throughout_prefix}
+use Rattle.gixobj_editor.proofs.Keeping.{agrees_throughout_suffix}
 
 -- a store has trees, so that what holds for its trees holds for some
 trees_exist_of_objects : (objects : Objects) (P : Trees → Type 0) → OfTrees objects P → (trees : Trees) × AreTreesOf objects trees × P trees

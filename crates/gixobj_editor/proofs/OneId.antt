@@ -29,7 +29,8 @@ use Rattle.gixobj_editor.proofs.Keeping.{AgreesThroughout, agrees_throughout_pre
 use Rattle.gixobj_editor.proofs.Named.{agrees_with_run_prefix, agrees_later, agrees_with_written_pairs, ensured_keeps, command_keeps, edit_keeps, names_history}
 use Rattle.gixobj_editor.proofs.Reported.{mode_of_kind_not_tree, plain_history_of_prefix, known_by_trees, is_up_to_of_same_files}
 use Rattle.gixobj_editor.proofs.PlainRuns.{AreBuilt, IsPlainState, Within, plain_ensured, plain_below, plain_failed, plain_removed, plain_root, plain_upserted}
-use Rattle.gixobj_editor.specs.Commands.{Location, at_cursor, at_root, kept_of, kept_of_edit, emitted_pairs, kept_pairs, pairs_of, pairs_of_edit, written_at, written_by}
+use Rattle.gixobj_editor.specs.Commands.{Location, at_cursor, at_root, kept_of, kept_of_edit, emitted_pairs, kept_pairs, pairs_of, pairs_of_edit, written_at}
+use Rattle.gixobj_editor.specs.Commands.{written_by}
 use Rattle.gixobj_editor.specs.PlainRuns.{IdsDetermineFiles, IsPlainRun, NamesNoTree, InsertsNoTree, files_before}
 use Rattle.gixobj_editor.specs.Replies.{Answers, AreEditReplies, ReturnsTreeId, IsEditReply, IsReply, IsReplyAt, IsRun, IsWriteKept, IsWrittenAt}
 use Rattle.gixobj_editor.specs.RunTables.{AgreesWithObjects, AgreesWithRun}

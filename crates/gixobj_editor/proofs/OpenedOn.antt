@@ -17,7 +17,8 @@ use Rattle.gixobj_editor_files.specs.Edits.{IsNoTree, Opens, ensured_dirs, only_
 use Rattle.gixobj_editor_files.specs.Files.{Path, Trees}
 use Rattle.gixobj_editor_files.specs.OpeningStops.{StopsOpening}
 use Rattle.gixobj_editor_files.specs.Opening.{Dirs}
-use Rattle.gixobj_editor_files.proofs.Calls.{ensured_null_based, are_null_based_of_none, opened_null_based, removed_null_based, upserted_null_based, written_null_based}
+use Rattle.gixobj_editor_files.proofs.Calls.{ensured_null_based, are_null_based_of_none, opened_null_based, removed_null_based, upserted_null_based}
+use Rattle.gixobj_editor_files.proofs.Calls.{written_null_based}
 use Rattle.gixobj_editor_files.proofs.StoppedOpenings.{halts_opens}
 use Rattle.gixobj_editor_files.proofs.StillOpenedOpenings.{is_opened_of_opens}
 use Rattle.gixobj_store.specs.Stores.{Objects}

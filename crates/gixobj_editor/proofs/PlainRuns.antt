@@ -17,9 +17,11 @@ use Rattle.gixobj_editor_files.proofs.EnsuredFiles.{is_open_along_of_opens}
 use Rattle.gixobj_editor_files.proofs.Canonical.{IsClean}
 use Rattle.gixobj_editor_files.proofs.EditedFiles.{root_alone_at_root, root_alone_below_root}
 use Rattle.gixobj_editor_files.proofs.LastingProperties.{everywhere_in_path}
-use Rattle.gixobj_editor_files.proofs.Everywhere.{Everywhere, everywhere_ensured, everywhere_opened, everywhere_removed, everywhere_upserted, everywhere_written}
+use Rattle.gixobj_editor_files.proofs.Everywhere.{Everywhere, everywhere_ensured, everywhere_opened, everywhere_removed, everywhere_upserted}
+use Rattle.gixobj_editor_files.proofs.Everywhere.{everywhere_written}
 use Rattle.gixobj_editor_files.proofs.OpeningFiles.{opens_makes_ready}
-use Rattle.gixobj_editor_files.proofs.Plain.{IsEmitted, HasBuilt, Plain, all_joined, all_remaining, all_right, is_built_of_rests_on, is_plain_of_rests_on, emits_below_plain, plain_lasts}
+use Rattle.gixobj_editor_files.proofs.Plain.{IsEmitted, HasBuilt, Plain, all_joined, all_remaining, all_right, is_built_of_rests_on, is_plain_of_rests_on}
+use Rattle.gixobj_editor_files.proofs.Plain.{emits_below_plain, plain_lasts}
 use Rattle.gixobj_editor_files.proofs.StillOpenedOpenings.{is_opened_of_only, is_opened_of_opens}
 use Rattle.gixobj_editor_files.proofs.UpsertedFiles.{IsReady}
 use Rattle.gixobj_editor_files.specs.Bases.{edited_bases, opened_bases}

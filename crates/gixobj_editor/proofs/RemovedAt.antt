@@ -26,7 +26,8 @@ use Rattle.gixobj_editor_lookups.specs.declared.error.Error.TheVariants as error
 use Rattle.gixobj_store.specs.Stores.{StoreModel}
 use Rattle.gixobj_editor_lookups.specs.RemovalErrors.{IsLeafDirectoryError}
 use Rattle.gixobj_editor.specs.Removals.{IsRemovedUpTo}
-use Rattle.gixobj_editor.proofs.Edited.{EditedSo, OpenedOn, OpenedSo, map_is_opened, edited_bases_of_map, tree_known_above, map_bases, map_dirs, no_error_above, map_is_opened_on, map_dirs_eq, state_of, stay_at}
+use Rattle.gixobj_editor.proofs.Edited.{EditedSo, OpenedOn, OpenedSo, map_is_opened, edited_bases_of_map, tree_known_above, map_bases, map_dirs, no_error_above}
+use Rattle.gixobj_editor.proofs.Edited.{map_is_opened_on, map_dirs_eq, state_of, stay_at}
 use Rattle.gixobj_editor_lookups.proofs.OpeningSteps.{ends_before_is_idle}
 use Rattle.gixobj_editor_lookups.specs.Openings.{EndsBefore}
 use Rattle.gixobj_editor_lookups.specs.declared.opening.NotLookedUp.{NotLookedUp}

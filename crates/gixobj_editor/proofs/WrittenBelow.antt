@@ -19,7 +19,8 @@ use Rattle.gixobj_hash.specs.declared.hash.kind.Kind.{Kind}
 use Rattle.gixobj_tree_entries.specs.Entries.{EntryView, Pair}
 use Rattle.gixobj_editor_write.specs.declared.write.Written.{Written}
 use Rattle.gixobj_editor.specs.Cursors.{IsWrittenBelow}
-use Rattle.gixobj_editor.proofs.Edited.{EditedSo, OpenedOn, map_is_opened, map_bases, map_dirs, map_is_opened_on, only_edited_bases_of_map, map_bases_eq, map_dirs_eq, state_of}
+use Rattle.gixobj_editor.proofs.Edited.{EditedSo, OpenedOn, map_is_opened, map_bases, map_dirs, map_is_opened_on, only_edited_bases_of_map, map_bases_eq}
+use Rattle.gixobj_editor.proofs.Edited.{map_dirs_eq, state_of}
 use Rattle.gixobj_editor_files.proofs.Based.{everywhere_based}
 use Rattle.gixobj_editor_files.proofs.Calls.{written_based}
 use Rattle.gixobj_editor.proofs.WrittenOut.{all_storable_snoc}

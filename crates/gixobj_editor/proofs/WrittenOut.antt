@@ -18,7 +18,8 @@ use Rattle.gixobj_editor_open.proofs.Steps.{dirs_of_childless}
 use Rattle.gixobj_editor_write.proofs.StorablePairs.{emits_below_storable}
 use Rattle.gixobj_editor_write.specs.declared.write.Written.{Written}
 use Rattle.gixobj_editor.specs.Writes.{IsWrittenEditor}
-use Rattle.gixobj_editor.proofs.Edited.{EditedSo, OpenedOn, map_dirs_at, map_bases, map_dirs, map_is_opened_on, only_edited_bases_of_map, map_bases_eq, map_dirs_eq, state_of}
+use Rattle.gixobj_editor.proofs.Edited.{EditedSo, OpenedOn, map_dirs_at, map_bases, map_dirs, map_is_opened_on, only_edited_bases_of_map, map_bases_eq}
+use Rattle.gixobj_editor.proofs.Edited.{map_dirs_eq, state_of}
 use Rattle.gixobj_editor_files.specs.Bases.{HasBases, base_edited}
 use Rattle.gixobj_editor_files.specs.Edits.{only_open}
 use Rattle.gixobj_editor_files.proofs.Based.{everywhere_based}

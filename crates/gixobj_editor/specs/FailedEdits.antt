@@ -12,7 +12,8 @@ use Rattle.gixobj_editor_files.specs.Tables.{AgreesWithStore}
 use Rattle.gixobj_tree_entries.specs.Entries.{EntryView}
 use Rattle.gixobj_editor_lookups.specs.declared.error.Error.{Error}
 use Rattle.gixobj_editor_lookups.specs.declared.error.Error.TheVariants as error
-pub use Rattle.gixobj_editor_lookups.specs.FailedOpenings.{HasCounted, IsErrorAfterLookup, IsLookupError, OpensInPart, edit_error}
+pub use Rattle.gixobj_editor_lookups.specs.FailedOpenings.{HasCounted, IsErrorAfterLookup, IsLookupError, OpensInPart}
+pub use Rattle.gixobj_editor_lookups.specs.FailedOpenings.{edit_error}
 
 -- the effect of an edit that fails with this error: directories on the path are opened in part. An open directory is
 -- still open, with its entries. The files and the rest are unchanged

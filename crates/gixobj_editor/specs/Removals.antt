@@ -18,7 +18,8 @@ use Rattle.gixobj_editor_lookups.specs.EditNames.{directory_of}
 use Rattle.gixobj_editor_lookups.specs.RemovalErrors.{EditErrors}
 use Rattle.gixobj_editor_lookups.specs.declared.error.Error.{Error}
 use Rattle.gixobj_editor_lookups.specs.declared.error.Error.TheVariants as error
-pub use Rattle.gixobj_editor_lookups.specs.RemovalErrors.{HasInvalidName, IsLeafDirectoryError, IsOpenErrorOnPath, IsRemovalErrorUpTo, ValidatesUpTo}
+pub use Rattle.gixobj_editor_lookups.specs.RemovalErrors.{HasInvalidName, IsLeafDirectoryError, IsOpenErrorOnPath}
+pub use Rattle.gixobj_editor_lookups.specs.RemovalErrors.{IsRemovalErrorUpTo, ValidatesUpTo}
 
 -- the errors of a removal; its opening ends only before an entry that isn't of tree mode
 abbrev pub IsRemovalError : EditErrors

@@ -18,7 +18,8 @@ use Rattle.gixobj_hash.specs.declared.hash.object_id.ObjectId.{ObjectId}
 use Rattle.gixobj_tree_entries.specs.Entries.{EntryView}
 use Rattle.gixobj_editor_lookups.specs.declared.error.Error.{Error}
 use Rattle.gixobj_editor_lookups.specs.declared.error.Error.TheVariants as error
-pub use Rattle.gixobj_editor_lookups.specs.EditNames.{IsEntryNameError, IsFirstNameError, SplitsForRemoval, StartsInvalid, directory_of}
+pub use Rattle.gixobj_editor_lookups.specs.EditNames.{IsEntryNameError, IsFirstNameError, SplitsForRemoval}
+pub use Rattle.gixobj_editor_lookups.specs.EditNames.{StartsInvalid, directory_of}
 pub use Rattle.gixobj_editor_lookups.specs.RemovalErrors.{EditErrors}
 pub use Rattle.gixobj_editor_lookups.specs.UpsertErrors.{IsNameError, IsOpenErrorAbove, IsUnopenedError, IsUpsertError}
 

@@ -11,7 +11,8 @@ ghost use Rattle.gixobj_editor_files.specs.Edits.{IsNoTree, IsNotLookedUp, entry
 ghost use Rattle.gixobj_editor_files.specs.Files.{Files, SameFiles, Table};
 ghost use Rattle.gixobj_editor_files.specs.Opening.{IsOpened};
 ghost use Rattle.gixobj_editor_files.specs.Bases.{HasBases};
-ghost use Rattle.gixobj_editor_files.specs.State.{EditorFiles, new_state, open_bases, open_dirs, root_alone, with_store};
+ghost use Rattle.gixobj_editor_files.specs.State.{EditorFiles, new_state, open_bases, open_dirs, root_alone};
+ghost use Rattle.gixobj_editor_files.specs.State.{with_store};
 ghost use Rattle.gixobj_editor_files.specs.Emission.{EmitsSome};
 ghost use Rattle.gixobj_editor_write.specs.Calls.{IsCallableOnTrees, answered, denied, names_of};
 ghost use Rattle.gixobj_editor_write.specs.WriteErrors.{IsWriteError};
@@ -43,12 +44,10 @@ use std::marker::Model;
 
 /// An editor of a tree and of the trees below it, over an object store. [`Editor::new`] makes one.
 ///
-/// In contracts it has the entries of each open directory and its base, both by the directory's path. The
-/// base is the store's tree that the directory was opened with, and is empty if an edit made the directory.
-/// That of the root is empty, and has no effect.
-///
-/// In contracts the editor also has the store, the number of lookups, the kind of the ids, and the path of
-/// the newest cursor. An entry with a null id is a placeholder, which a write leaves out.
+/// In contracts it has the entries of each open directory and its base, both by the directory's path. The base is
+/// the store's tree that the directory was opened with. It is empty if an edit made the directory, and at the root.
+/// The editor also has the store, the number of lookups, the kind of the ids, and the path of the newest cursor.
+/// An entry with a null id is a placeholder, which a write leaves out.
 #[derive(Drop)]
 pub struct Editor<S> {
     root: Open,

@@ -9,7 +9,8 @@ use Rattle.gixobj_editor_commands.specs.Views.{CommandView, EditView, edits_at, 
 use Rattle.gixobj_hash.specs.declared.hash.kind.Kind as hash
 use Rattle.gixobj_hash.specs.declared.hash.object_id.ObjectId.{ObjectId}
 use Rattle.gixobj_hash.proofs.SplitsAtEach.{split_at_each_unique, split_at_each_exists}
-use Rattle.gixobj_editor_commands.specs.Lines.{HasCommand, HasEdit, HasNoCommand, HasNoEdit, DecodesToCommand, IsEditAt, DecodesToEdit, IsEntryAt, IsHexOfId, keyword_and}
+use Rattle.gixobj_editor_commands.specs.Lines.{HasCommand, HasEdit, HasNoCommand, HasNoEdit, DecodesToCommand, IsEditAt, DecodesToEdit, IsEntryAt, IsHexOfId}
+use Rattle.gixobj_editor_commands.specs.Lines.{keyword_and}
 use Rattle.gixobj_editor_commands.specs.ScriptPaths.{ArePathNames, root_path}
 use Rattle.gixobj_hash.proofs.Splits.{byte_free_of_all_pass, no_split_of_byte_free, split_parts_unique}
 use Rattle.gixobj_hash.specs.Bytes.{slash}

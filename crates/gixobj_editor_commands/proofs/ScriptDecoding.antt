@@ -5,7 +5,8 @@ use Rattle.std.proofs.lemmas.List.Elements.{All-nil, All-push}
 use Rattle.std.specs.List.{AllZip}
 use Rattle.gixobj_editor_commands.specs.Views.{CommandView}
 use Rattle.gixobj_hash.specs.declared.hash.kind.Kind as hash
-use Rattle.gixobj_hash.proofs.SplitsAtEach.{ArePrefixes, is_split_at_each_append, are_prefixes_nil, are_prefixes_snoc, split_at_each_exists, is_split_at_each_snoc}
+use Rattle.gixobj_hash.proofs.SplitsAtEach.{ArePrefixes, is_split_at_each_append, are_prefixes_nil, are_prefixes_snoc, split_at_each_exists}
+use Rattle.gixobj_hash.proofs.SplitsAtEach.{is_split_at_each_snoc}
 use Rattle.gixobj_editor_commands.specs.Lines.{DecodesToCommand}
 use Rattle.gixobj_hash.specs.Splits.{IsSplitAtEach}
 use Rattle.gixobj_editor_commands.specs.Scripts.{IsFirstBad, IsGoodLine, IsReached, IsScript, AppendsLine, IsScriptLineError, IsScriptParseError, filled_lines}

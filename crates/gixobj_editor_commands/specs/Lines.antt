@@ -1,6 +1,7 @@
 -- Lines of a script, and the commands to which they decode.
 use Rattle.std.specs.Prelude.{◌≡◌, ◌++◌, ◌∷◌, ℕ, List, [], codes}
-use Rattle.gixobj_editor_commands.specs.Views.{CommandView, EditView, edits_at, one_edit, remove, remove_leaf, set_root, upsert, write}
+use Rattle.gixobj_editor_commands.specs.Views.{CommandView, EditView, edits_at, one_edit, remove, remove_leaf, set_root}
+use Rattle.gixobj_editor_commands.specs.Views.{upsert, write}
 use Rattle.gixobj_hash.specs.Hash.Hex.{IsIdHexOfKind, decoded_id}
 use Rattle.gixobj_hash.specs.declared.hash.kind.Kind as hash
 use Rattle.gixobj_hash.specs.declared.hash.object_id.ObjectId.{ObjectId}

@@ -2,7 +2,8 @@
 ghost use Rattle.std.specs.Prelude.{◌≡◌, ◌≢◌, ℕ, List, codes, IfOk, IfNone, IfSome, MatchOption, OnErr};
 ghost use Rattle.gixobj_editor_commands.specs.Views.{command_view, edit_view};
 ghost use Rattle.gixobj_hash.specs.declared.hash.object_id.ObjectId.{ObjectId};
-ghost use Rattle.gixobj_editor_commands.specs.Lines.{HasCommand, HasEdit, HasNoCommand, HasNoEdit, DecodesToCommand, DecodesToEdit, IsEntryAt, IsHexOfId, keyword_and};
+ghost use Rattle.gixobj_editor_commands.specs.Lines.{HasCommand, HasEdit, HasNoCommand, HasNoEdit, DecodesToCommand};
+ghost use Rattle.gixobj_editor_commands.specs.Lines.{DecodesToEdit, IsEntryAt, IsHexOfId, keyword_and};
 ghost use Rattle.gixobj_tree_entries.specs.Mode.{entry_kind_name};
 ghost use Rattle.gixobj_tree_entries.specs.declared.entry_kind.EntryKind.{EntryKind};
 

@@ -1,6 +1,7 @@
 -- The first position of a test, and what a binary search finds in ascending keys: for the searches of entries, of open
 -- directories and of the items of a piece.
-use Rattle.std.proofs.Common.{◌≡◌, ◌≢◌, ◌∙◌, ◌+◌, ◌<◌, ◌≤◌, inl, inr, ℕ, zero, suc, Bool, true, false, not, cond, List, [], ◌∷◌, HoldsAt, MatchResult, Some, None, Less, Equal, Greater, Ordering, Result, Ok, Err, get_or, length, nat_lt, refl, sym, ap, subst, arith}
+use Rattle.std.proofs.Common.{◌≡◌, ◌≢◌, ◌∙◌, ◌+◌, ◌<◌, ◌≤◌, inl, inr, ℕ, zero, suc, Bool, true, false, not, cond, List, [], ◌∷◌, HoldsAt, MatchResult, Some}
+use Rattle.std.proofs.Common.{None, Less, Equal, Greater, Ordering, Result, Ok, Err, get_or, length, nat_lt, refl, sym, ap, subst, arith}
 use mathlib.Core.Bool.{true≢false}
 use Rattle.std.specs.Cmp.Lexicographic.{slice_cmp}
 use Rattle.std.specs.List.{find, position, position_or_len, prefix_len, slice_get}

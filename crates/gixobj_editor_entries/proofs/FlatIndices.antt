@@ -1,6 +1,7 @@
 -- The item at a position in pieces is the item of the list at its flat index, also once it is changed, and the position
 -- of a key is that of its item; the proofs of `position_of`, `position_at`, `Neighbours` and open directories use it.
-use Rattle.std.proofs.Common.{◌≡◌, ◌∙◌, ◌+◌, ◌-◌, ◌<◌, ℕ, zero, suc, Bool, false, cond, List, [], ◌∷◌, ◌++◌, HoldsAt, Less, Equal, Greater, Option, true, Some, None, get_or, set, length, length-append, refl, sym, ap, subst, take, arith}
+use Rattle.std.proofs.Common.{◌≡◌, ◌∙◌, ◌+◌, ◌-◌, ◌<◌, ℕ, zero, suc, Bool, false, cond, List, [], ◌∷◌, ◌++◌, HoldsAt, Less, Equal, Greater, Option, true, Some}
+use Rattle.std.proofs.Common.{None, get_or, set, length, length-append, refl, sym, ap, subst, take, arith}
 use mathlib.Core.Bool.{true≢false}
 use Rattle.std.specs.Prelude.{IfNone, IfSome}
 use Rattle.std.specs.Cmp.Lexicographic.{slice_cmp}

@@ -1,6 +1,7 @@
 -- An edit of one piece of a list in pieces changes the list as it changes the piece, and keeps the invariant of pieces;
 -- the proofs of `pieces`, `positions` and `splits` use it, and those of open directories.
-use Rattle.std.proofs.Common.{◌≡◌, ◌≢◌, ◌∙◌, ◌+◌, ◌<◌, ℕ, zero, suc, Bool, true, false, not, cond, List, [], ◌∷◌, ◌++◌, Less, Equal, Greater, Ordering, Result, Ok, Err, HoldsAt, get_or, set, length, length-append, map, refl, sym, ap, subst, arith}
+use Rattle.std.proofs.Common.{◌≡◌, ◌≢◌, ◌∙◌, ◌+◌, ◌<◌, ℕ, zero, suc, Bool, true, false, not, cond, List, [], ◌∷◌, ◌++◌, Less, Equal, Greater, Ordering, Result}
+use Rattle.std.proofs.Common.{Ok, Err, HoldsAt, get_or, set, length, length-append, map, refl, sym, ap, subst, arith}
 use mathlib.Core.Bool.{true≢false}
 use mathlib.Core.List.{append_assoc}
 use Rattle.std.specs.Cmp.Lexicographic.{slice_cmp}
@@ -11,10 +12,13 @@ use Rattle.std.proofs.lemmas.Cmp.{nat_list_cmp_total}
 use Rattle.std.proofs.lemmas.List.{get_or-set_same}
 use Rattle.std.proofs.lemmas.List.Elements.{filter-append}
 use Rattle.gixobj_tree_entries.specs.KeyOrder.{EachLater}
-use Rattle.gixobj_editor_entries.specs.Pieces.{AreNonEmpty, HoldsAtPiece, IsAscending, IsPieced, begins_at_most, has_key, is_after, is_before, item_key, joined, pieces_at_most, with_item, without_key}
+use Rattle.gixobj_editor_entries.specs.Pieces.{AreNonEmpty, HoldsAtPiece, IsAscending, IsPieced, begins_at_most, has_key, is_after, is_before, item_key, joined}
+use Rattle.gixobj_editor_entries.specs.Pieces.{pieces_at_most, with_item, without_key}
 use Rattle.gixobj_editor_entries.proofs.BinarySearch.{greater_of_compare, less_of_compare}
 use Rattle.gixobj_editor_entries.proofs.Keys.{each_later_of_append_left, each_later_of_append_right, is_ascending_of_append_right}
-use Rattle.gixobj_editor_entries.proofs.OnePiece.{AllCompare, all_greater_of_head_not_before, all_less_of_next_not_after, find_append_of_all_greater, find_append_of_all_less, with_item_append_of_all_greater, with_item_append_of_all_less, without_key_of_all_greater, without_key_of_all_less}
+use Rattle.gixobj_editor_entries.proofs.OnePiece.{AllCompare, all_greater_of_head_not_before, all_less_of_next_not_after, find_append_of_all_greater}
+use Rattle.gixobj_editor_entries.proofs.OnePiece.{find_append_of_all_less, with_item_append_of_all_greater, with_item_append_of_all_less}
+use Rattle.gixobj_editor_entries.proofs.OnePiece.{without_key_of_all_greater, without_key_of_all_less}
 use Rattle.gixobj_editor_entries.proofs.Sublists.{all_pass, all_weaker, later_append, later_kept}
 
 module _ {X Y : Type 0} (items : Y → List X) where

@@ -1,12 +1,14 @@
 -- If neighbours are less and greater than the searched key, then no item has it; the proofs of `is_past_end`,
 -- `remove_unless` and `insert_at` use it, and `WithEntry` of entries.
-use Rattle.std.proofs.Common.{◌≡◌, ◌∙◌, ◌+◌, ◌<◌, ◌≤◌, inl, inr, ℕ, zero, suc, Bool, true, false, cond, List, [], ◌∷◌, ◌++◌, HoldsAt, Less, Greater, None, get_or, length, length-append, refl, sym, ap, subst, arith}
+use Rattle.std.proofs.Common.{◌≡◌, ◌∙◌, ◌+◌, ◌<◌, ◌≤◌, inl, inr, ℕ, zero, suc, Bool, true, false, cond, List, [], ◌∷◌, ◌++◌, HoldsAt, Less, Greater, None}
+use Rattle.std.proofs.Common.{get_or, length, length-append, refl, sym, ap, subst, arith}
 use mathlib.Core.List.{append_assoc}
 use Rattle.std.specs.List.{filter, find, flat_map}
 use Rattle.std.specs.Ordering.{is_eq}
 use Rattle.std.proofs.lemmas.Bool.Decides.{leb_tells}
 use Rattle.std.proofs.lemmas.List.{get_or_append_left, get_or-append-add}
-use Rattle.gixobj_editor_entries.specs.Pieces.{HasGap, IsAscending, IsGreaterFrom, IsLessBefore, has_key, is_after, is_before, joined, key_cmp, with_item, without_key}
+use Rattle.gixobj_editor_entries.specs.Pieces.{HasGap, IsAscending, IsGreaterFrom, IsLessBefore, has_key, is_after, is_before, joined, key_cmp, with_item}
+use Rattle.gixobj_editor_entries.specs.Pieces.{without_key}
 use Rattle.gixobj_editor_entries.proofs.BinarySearch.{find_none, greater_from, less_to, position_none}
 use Rattle.gixobj_editor_entries.proofs.FlatIndices.{fails_of_none}
 

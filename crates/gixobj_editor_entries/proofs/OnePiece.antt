@@ -1,6 +1,7 @@
 -- A search or an edit of ascending items makes of a list what it makes of the part about the searched key; the proofs
 -- of `find_in`, `insert_in`, `remove_in` and `position_at` use it, and `Joined`.
-use Rattle.std.proofs.Common.{◌≡◌, ◌∙◌, ◌+◌, ◌<◌, ℕ, suc, Bool, true, false, not, cond, List, [], ◌∷◌, ◌++◌, HoldsAt, Less, Equal, Greater, Ordering, Option, Some, None, get_or, set, length, refl, sym, ap, subst, arith}
+use Rattle.std.proofs.Common.{◌≡◌, ◌∙◌, ◌+◌, ◌<◌, ℕ, suc, Bool, true, false, not, cond, List, [], ◌∷◌, ◌++◌, HoldsAt, Less, Equal, Greater, Ordering, Option}
+use Rattle.std.proofs.Common.{Some, None, get_or, set, length, refl, sym, ap, subst, arith}
 use mathlib.Core.Bool.{true≢false}
 use mathlib.Core.List.{append-nil, append_assoc}
 use Rattle.std.specs.Cmp.Lexicographic.{slice_cmp}

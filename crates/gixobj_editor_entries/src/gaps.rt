@@ -2,7 +2,8 @@
 ghost use Rattle.std.specs.Prelude.{◌≡◌, IsTrue, List, None};
 ghost use Rattle.std.specs.List.{find};
 ghost use Rattle.gixobj_tree_entries.specs.KeyOrder.{key_of};
-ghost use Rattle.gixobj_editor_entries.specs.Pieces.{HasGap, IsGreaterFrom, IsLessBefore, IsPieced, has_key, item_key, joined, other_key};
+ghost use Rattle.gixobj_editor_entries.specs.Pieces.{HasGap, IsGreaterFrom, IsLessBefore, IsPieced, has_key, item_key};
+ghost use Rattle.gixobj_editor_entries.specs.Pieces.{joined, other_key};
 
 use crate::named::Named;
 use crate::search::order_by_key;

@@ -1,11 +1,13 @@
 //! Searches, insertions and removals in lists in pieces, each in the one piece of the searched key.
 //!
 //! A list is a first piece and more pieces. Its keys ascend, and no piece but the first is empty.
-ghost use Rattle.std.specs.Prelude.{◌≡◌, ◌≢◌, ◌⊎◌, ◌+◌, ◌<◌, ◌≤◌, [], IsFalse, IsTrue, None, if◌then◌else◌, length, vec_capacity, vec_len};
+ghost use Rattle.std.specs.Prelude.{◌≡◌, ◌≢◌, ◌⊎◌, ◌+◌, ◌<◌, ◌≤◌, [], IsFalse, IsTrue, None, if◌then◌else◌, length};
+ghost use Rattle.std.specs.Prelude.{vec_capacity, vec_len};
 ghost use Rattle.std.specs.List.{find};
 ghost use Rattle.std.specs.Option.{option_copied};
 ghost use Rattle.gixobj_tree_entries.specs.KeyOrder.{key_of};
-ghost use Rattle.gixobj_editor_entries.specs.Pieces.{HasGap, HoldsAtPiece, IsAscending, IsPieced, has_key, item_key, joined, other_key, pieces_at_most, with_item, without_key};
+ghost use Rattle.gixobj_editor_entries.specs.Pieces.{HasGap, HoldsAtPiece, IsAscending, IsPieced, has_key, item_key};
+ghost use Rattle.gixobj_editor_entries.specs.Pieces.{joined, other_key, pieces_at_most, with_item, without_key};
 
 use crate::gaps::{is_alone_in, is_past_end};
 use crate::named::Named;

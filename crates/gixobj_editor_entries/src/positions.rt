@@ -2,7 +2,8 @@
 ghost use Rattle.std.specs.Prelude.{◌≡◌, ◌<◌, IfNone, IfSome, None, Some, length};
 ghost use Rattle.std.specs.List.{HoldsAt, find, position};
 ghost use Rattle.gixobj_tree_entries.specs.KeyOrder.{key_of};
-ghost use Rattle.gixobj_editor_entries.specs.Pieces.{IsAscending, IsPieced, IsPosition, flat_index, has_key, item_key, joined};
+ghost use Rattle.gixobj_editor_entries.specs.Pieces.{IsAscending, IsPieced, IsPosition, flat_index, has_key, item_key};
+ghost use Rattle.gixobj_editor_entries.specs.Pieces.{joined};
 
 use crate::gaps::is_past_end;
 use crate::named::Named;

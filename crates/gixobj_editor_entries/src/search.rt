@@ -2,7 +2,8 @@
 ghost use Rattle.std.specs.Prelude.{◌≡◌, ◌<◌, ◌≤◌, true, false, IfErr, IfOk, MatchResult, length};
 ghost use Rattle.std.specs.List.{HoldsAt, flat_map, prefix_len};
 ghost use Rattle.gixobj_tree_entries.specs.KeyOrder.{key_of};
-ghost use Rattle.gixobj_editor_entries.specs.Pieces.{AreNonEmpty, IsAscending, begins_at_most, has_key, is_before, item_key, key_cmp, pieces_at_most};
+ghost use Rattle.gixobj_editor_entries.specs.Pieces.{AreNonEmpty, IsAscending, begins_at_most, has_key, is_before};
+ghost use Rattle.gixobj_editor_entries.specs.Pieces.{item_key, key_cmp, pieces_at_most};
 
 use crate::named::Named;
 use gixobj_tree_entries::order::key_order;

@@ -1,8 +1,10 @@
 //! Capacity for one more item in a list in pieces; full pieces are split.
-ghost use Rattle.std.specs.Prelude.{◌≡◌, ◌≢◌, ◌<◌, ◌≤◌, ◌++◌, [], IfOk, IsTrue, OnErr, OnOk, length, map, slice_index_or, vec_capacity, vec_len};
+ghost use Rattle.std.specs.Prelude.{◌≡◌, ◌≢◌, ◌<◌, ◌≤◌, ◌++◌, [], IfOk, IsTrue, OnErr, OnOk, length, map};
+ghost use Rattle.std.specs.Prelude.{slice_index_or, vec_capacity, vec_len};
 ghost use Rattle.std.specs.List.{flat_map};
 ghost use Rattle.gixobj_tree_entries.specs.KeyOrder.{key_of};
-ghost use Rattle.gixobj_editor_entries.specs.Pieces.{AreNonEmpty, HoldsAtPiece, IsPieced, item_key, joined, pieces_at_most};
+ghost use Rattle.gixobj_editor_entries.specs.Pieces.{AreNonEmpty, HoldsAtPiece, IsPieced, item_key, joined};
+ghost use Rattle.gixobj_editor_entries.specs.Pieces.{pieces_at_most};
 
 use crate::named::Named;
 use crate::search::piece_of;

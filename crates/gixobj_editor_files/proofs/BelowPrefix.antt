@@ -1,6 +1,7 @@
 -- The open directories at and below a path have the files there, and others that replace them change no other files:
 -- for cursors and `Everywhere`.
-use Rattle.std.proofs.Common.{◌≡◌, ◌≢◌, inl, inr, ℕ, ◌+◌, zero, suc, List, [], ◌∷◌, ◌++◌, append_assoc, append-nil, length, refl, sym, ap, subst, ◌∙◌, arith, Option, Some, None}
+use Rattle.std.proofs.Common.{◌≡◌, ◌≢◌, inl, inr, ℕ, ◌+◌, zero, suc, List, [], ◌∷◌, ◌++◌, append_assoc, append-nil, length, refl, sym, ap, subst, ◌∙◌, arith}
+use Rattle.std.proofs.Common.{Option, Some, None}
 use Rattle.std.specs.Prelude.{◌↔◌, IsTrue}
 use Rattle.gixobj_tree_entries.specs.Entries.{EntryView}
 use Rattle.gixobj_tree.specs.WellFormed.{IsWellFormed}

@@ -11,7 +11,8 @@ use Rattle.gixobj_editor_files.specs.Files.{ContainsEntry, Path, Table, Trees, i
 use Rattle.gixobj_editor_files.specs.Opening.{Dirs, IsOpened}
 use Rattle.gixobj_editor_files.specs.State.{root_alone}
 use Rattle.gixobj_editor_files.specs.Tables.{AgreesWithStore}
-use Rattle.gixobj_editor_files.proofs.Based.{Based, NullBased, are_null_based_of_everywhere, based_is_lasting, everywhere_based, has_bases_of_everywhere, null_based_is_lasting, everywhere_null_based}
+use Rattle.gixobj_editor_files.proofs.Based.{Based, NullBased, are_null_based_of_everywhere, based_is_lasting, everywhere_based, has_bases_of_everywhere}
+use Rattle.gixobj_editor_files.proofs.Based.{null_based_is_lasting, everywhere_null_based}
 use Rattle.gixobj_editor_files.proofs.EditedFiles.{root_alone_below_root}
 use Rattle.gixobj_editor_files.proofs.Everywhere.{Everywhere, Lasts, OfEntry, everywhere_opened}
 use Rattle.gixobj_editor_files.proofs.LastingProperties.{lasts_ensured, lasts_removed, lasts_upserted, lasts_written}

@@ -7,9 +7,11 @@ use Rattle.gixobj_hash.specs.declared.hash.object_id.ObjectId.{ObjectId}
 use Rattle.gixobj_editor_files.specs.Edits.{IsNoTree, Opens, arrived, ensured_dirs, down, found, only_open, or_empty, stops, with_directory}
 use Rattle.gixobj_editor_files.specs.Files.{Ensured, Begins, FileSet, Files, Path, SameFiles, Table, Trees}
 use Rattle.gixobj_editor_files.specs.Opening.{Dirs, HasAt, OpenFiles, in_dir}
-use Rattle.gixobj_editor_files.proofs.OpenedFiles.{open_files_of_other_name, open_files_of_open, open_files_into_open, open_files_into_unopened, same_name_refl, same_name_false, path_nil_below_file, no_open_files_of_none, name_eq_or_ne}
+use Rattle.gixobj_editor_files.proofs.OpenedFiles.{open_files_of_other_name, open_files_of_open, open_files_into_open, open_files_into_unopened, same_name_refl}
+use Rattle.gixobj_editor_files.proofs.OpenedFiles.{same_name_false, path_nil_below_file, no_open_files_of_none, name_eq_or_ne}
 use Rattle.gixobj_editor_files.proofs.OpeningFiles.{with_dir_in_dir, opens_keeps_root}
-use Rattle.gixobj_editor_files.proofs.UpsertedFiles.{begins_of_cons, begins_cons, begins_cons_name, has_with_directory, has_of_with_directory, has_or_empty_of_has_at, has_made_directory, has_at_of_or_empty}
+use Rattle.gixobj_editor_files.proofs.UpsertedFiles.{begins_of_cons, begins_cons, begins_cons_name, has_with_directory, has_of_with_directory}
+use Rattle.gixobj_editor_files.proofs.UpsertedFiles.{has_or_empty_of_has_at, has_made_directory, has_at_of_or_empty}
 
 -- the path and each parent directory of it is open, as far as there are entries of tree mode
 abbrev pub IsOpenAlong : Path → Dirs → Type 0

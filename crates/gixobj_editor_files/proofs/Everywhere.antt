@@ -7,7 +7,8 @@ use Rattle.gixobj_tree_entries.specs.Entries.{EntryView}
 use Rattle.gixobj_tree_entries.specs.Mode.{is_tree_mode, tree_type}
 use Rattle.gixobj_hash.specs.declared.hash.object_id.ObjectId.{ObjectId}
 use Rattle.gixobj_editor_files.specs.Editing.{has_tree, with_entry, without}
-use Rattle.gixobj_editor_files.specs.Edits.{Finds, Opens, arrived, ensured_dirs, down, found, only_open, or_empty, removed_dirs, stops, upserted_dirs, with_dir, with_directory, with_path}
+use Rattle.gixobj_editor_files.specs.Edits.{Finds, Opens, arrived, ensured_dirs, down, found, only_open, or_empty, removed_dirs, stops, upserted_dirs, with_dir}
+use Rattle.gixobj_editor_files.specs.Edits.{with_directory, with_path}
 use Rattle.gixobj_editor_files.specs.Files.{ContainsEntry, Path, Trees}
 use Rattle.gixobj_editor_files.specs.Opening.{Dirs, HasAt, in_dir}
 use Rattle.gixobj_editor_files.proofs.EnsuredFiles.{IsOpenAlong, ensured_dirs_in_other_dir, ensured_dirs_in_dir}
@@ -17,7 +18,8 @@ use Rattle.gixobj_editor_files.proofs.OpenedFiles.{same_name_refl, name_eq_or_ne
 use Rattle.gixobj_editor_files.proofs.OpeningFiles.{with_dir_in_other_dir, with_dir_in_dir, opens_keeps_root}
 use Rattle.gixobj_editor_files.proofs.RemovedFiles.{removed_dirs_in_other_dir, removed_dirs_in_dir, removed_name_in_other_dir, has_at_of_without}
 use Rattle.gixobj_editor_files.proofs.StillOpened.{AreAbove}
-use Rattle.gixobj_editor_files.proofs.UpsertedFiles.{IsReady, has_of_with_directory, has_at_of_or_empty, inserted_name_in_other_dir, inserted_name_in_dir, upserted_dirs_in_other_dir, upserted_dirs_in_dir, upserted_dirs_keep_root}
+use Rattle.gixobj_editor_files.proofs.UpsertedFiles.{IsReady, has_of_with_directory, has_at_of_or_empty, inserted_name_in_other_dir, inserted_name_in_dir}
+use Rattle.gixobj_editor_files.proofs.UpsertedFiles.{upserted_dirs_in_other_dir, upserted_dirs_in_dir, upserted_dirs_keep_root}
 use Rattle.gixobj_editor_files.specs.Bases.{base_edited, base_opened, edited_bases, opened_bases}
 use Rattle.gixobj_editor_files.proofs.BelowPrefix.{list_at_open_prefix}
 

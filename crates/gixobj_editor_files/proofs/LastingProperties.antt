@@ -8,7 +8,8 @@ use Rattle.gixobj_editor_files.specs.Opening.{Dirs, IsOpened, in_dir, in_path}
 use Rattle.gixobj_editor_files.proofs.EnsuredFiles.{is_open_along_of_opens}
 use Rattle.gixobj_editor_files.proofs.OpeningFiles.{opens_makes_ready}
 use Rattle.gixobj_editor_files.proofs.StillOpenedOpenings.{is_opened_of_opens}
-use Rattle.gixobj_editor_files.proofs.Everywhere.{Everywhere, Lasts, OfEntry, everywhere_ensured, everywhere_opened, everywhere_removed, everywhere_upserted, everywhere_written}
+use Rattle.gixobj_editor_files.proofs.Everywhere.{Everywhere, Lasts, OfEntry, everywhere_ensured, everywhere_opened, everywhere_removed, everywhere_upserted}
+use Rattle.gixobj_editor_files.proofs.Everywhere.{everywhere_written}
 use Rattle.gixobj_editor_files.specs.Bases.{edited_bases, opened_bases}
 
 -- a property of all entries holds below a path

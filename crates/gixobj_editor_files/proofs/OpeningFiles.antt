@@ -11,7 +11,9 @@ use Rattle.gixobj_editor_files.specs.Opening.{Dirs, HasAt, OpenFiles, in_dir}
 use Rattle.gixobj_editor_files.specs.Tables.{AgreesWithStore}
 use Rattle.gixobj_editor_files.proofs.EditedFiles.{same_files_refl}
 use Rattle.gixobj_editor_files.proofs.UpsertedFiles.{IsReady}
-use Rattle.gixobj_editor_files.proofs.OpenedFiles.{IsAt, files_below_of_table, open_files_of_other_name, open_files_of_open, open_files_of_unopened, open_files_into_open, open_files_into_unopened, same_name_refl, same_name_false, open_files_of_root_alone, name_eq_or_ne}
+use Rattle.gixobj_editor_files.proofs.OpenedFiles.{IsAt, files_below_of_table, open_files_of_other_name, open_files_of_open, open_files_of_unopened}
+use Rattle.gixobj_editor_files.proofs.OpenedFiles.{open_files_into_open, open_files_into_unopened, same_name_refl, same_name_false, open_files_of_root_alone}
+use Rattle.gixobj_editor_files.proofs.OpenedFiles.{name_eq_or_ne}
 
 pub is_at_of_agreement : (T : Table) (trees : Trees) → AgreesWithStore T trees → (id : ObjectId) (entries : List EntryView) (looked_up : List ObjectId)
     → Finds trees id entries looked_up → IsAt T id entries

@@ -12,7 +12,8 @@ use Rattle.gixobj_editor_files.specs.Edits.{removed_dirs}
 use Rattle.gixobj_editor_files.specs.Files.{Begins, Below, FileSet, Files, Path, Removed, SameFiles, Table, is_null}
 use Rattle.gixobj_editor_files.specs.Opening.{Dirs, HasAt, OpenFiles, in_dir}
 use Rattle.gixobj_editor_files.proofs.EditedFiles.{has_without_other, has_of_without, same_files_refl}
-use Rattle.gixobj_editor_files.proofs.OpenedFiles.{open_files_of_other_name, open_files_of_open, open_files_into_open, open_files_into_unopened, same_name_refl, same_name_false, no_open_files_of_no_entries, path_nil_below_file, name_eq_or_ne}
+use Rattle.gixobj_editor_files.proofs.OpenedFiles.{open_files_of_other_name, open_files_of_open, open_files_into_open, open_files_into_unopened, same_name_refl}
+use Rattle.gixobj_editor_files.proofs.OpenedFiles.{same_name_false, no_open_files_of_no_entries, path_nil_below_file, name_eq_or_ne}
 use Rattle.gixobj_editor_files.proofs.UpsertedFiles.{begins_of_cons, begins_cons, begins_cons_name}
 
 -- if no directory is open, a removal opens none

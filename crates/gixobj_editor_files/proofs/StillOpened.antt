@@ -14,7 +14,8 @@ use Rattle.gixobj_editor_files.specs.Opening.{Dirs, HasAt, IsOpened, in_dir}
 use Rattle.gixobj_editor_files.proofs.EditedFiles.{has_with_entry_other}
 use Rattle.gixobj_editor_files.proofs.WellFormedEdits.{is_well_formed_with_entry}
 use Rattle.gixobj_editor_files.proofs.HasTrees.{is_well_formed_with_directory, entry_of_has_tree, has_tree_with_directory}
-use Rattle.gixobj_editor_files.proofs.UpsertedFiles.{has_with_directory, has_or_empty_of_has_at, inserted_name_in_dir, inserted_name_in_other_dir, upserted_dirs_in_other_dir}
+use Rattle.gixobj_editor_files.proofs.UpsertedFiles.{has_with_directory, has_or_empty_of_has_at, inserted_name_in_dir, inserted_name_in_other_dir}
+use Rattle.gixobj_editor_files.proofs.UpsertedFiles.{upserted_dirs_in_other_dir}
 use Rattle.gixobj_editor_files.proofs.OpenedFiles.{name_eq_or_ne}
 
 abbrev pub AreFormed : Dirs → Type 0

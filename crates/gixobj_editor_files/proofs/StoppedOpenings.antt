@@ -1,6 +1,7 @@
 -- An opening that stopped with an error has opened the directories before it, counted their lookups, and stopped at the
 -- error's directory. The editor's failed calls use it.
-use Rattle.std.proofs.Common.{◌≡◌, inl, inr, ℕ, ◌≤◌, true, false, List, [], ◌∷◌, ◌++◌, append_assoc, length, length-append, refl, sym, ap, subst, ◌∙◌, arith, Option, Some, None}
+use Rattle.std.proofs.Common.{◌≡◌, inl, inr, ℕ, ◌≤◌, true, false, List, [], ◌∷◌, ◌++◌, append_assoc, length, length-append, refl, sym, ap, subst, ◌∙◌, arith}
+use Rattle.std.proofs.Common.{Option, Some, None}
 use Rattle.std.specs.Prelude.{◌&&◌}
 use Rattle.gixobj_tree_entries.specs.Entries.{EntryView}
 use Rattle.gixobj_tree_entries.specs.Mode.{is_tree_mode}
@@ -11,7 +12,8 @@ use Rattle.gixobj_editor_files.specs.OpeningStops.{StopsOpening, IsAbove, IsNext
 use Rattle.gixobj_editor_files.specs.OpeningStops as halting
 use Rattle.gixobj_editor_files.specs.Opening.{Dirs, in_dir}
 use Rattle.gixobj_editor_files.specs.Unopened.{needs_opening, needs_lookup, needs_tree_lookup, is_unopened, looked_up_entry, unopened_count}
-use Rattle.gixobj_editor_files.proofs.UnopenedCounts.{IsIdle, count_found, count_open, count_vain, found_below, lookup_needed, first_entry_of_has_at, known_open, unopened_found, unopened_here, unopened_nowhere, unopened_open, needs_no_lookup}
+use Rattle.gixobj_editor_files.proofs.UnopenedCounts.{IsIdle, count_found, count_open, count_vain, found_below, lookup_needed, first_entry_of_has_at}
+use Rattle.gixobj_editor_files.proofs.UnopenedCounts.{known_open, unopened_found, unopened_here, unopened_nowhere, unopened_open, needs_no_lookup}
 
 -- the id that was looked up without success, if there is one
 abbrev pub failed_ids : Option ObjectId → List ObjectId

@@ -1,6 +1,7 @@
 -- An opening looks up as many ids as there are unopened directories above the last name of its path: for the editor's
 -- counts of lookups.
-use Rattle.std.proofs.Common.{◌≡◌, ◌⊎◌, inl, inr, ℕ, ◌+◌, Bool, true, false, not, cond, List, [], ◌∷◌, ◌++◌, length, refl, sym, ap, ◌∙◌, arith, Option, Some, None}
+use Rattle.std.proofs.Common.{◌≡◌, ◌⊎◌, inl, inr, ℕ, ◌+◌, Bool, true, false, not, cond, List, [], ◌∷◌, ◌++◌, length, refl, sym, ap, ◌∙◌, arith, Option, Some}
+use Rattle.std.proofs.Common.{None}
 use Rattle.std.specs.Prelude.{◌&&◌, ◌≤◌, map}
 use Rattle.std.specs.List.{filter, find}
 use Rattle.std.specs.Cmp.Lexicographic.{bytes_decides}
@@ -17,7 +18,8 @@ use Rattle.gixobj_editor_files.specs.Edits.{Finds, IsEntryOf, IsNotLookedUp, Ope
 use Rattle.gixobj_editor_files.specs.Files.{ContainsEntry, Path, Trees, is_null}
 use Rattle.gixobj_editor_files.specs.Opening.{Dirs, HasAt, in_dir}
 use Rattle.gixobj_editor_files.specs.Tables.{IsNeverLookedUp}
-use Rattle.gixobj_editor_files.specs.Unopened.{is_empty_tree_id, needs_opening, needs_lookup, needs_tree_lookup, is_unopened, list_of, by_openness, strict_beginnings, looked_up_entry, entry_in_store, tree_of, unopened_count}
+use Rattle.gixobj_editor_files.specs.Unopened.{is_empty_tree_id, needs_opening, needs_lookup, needs_tree_lookup, is_unopened, list_of, by_openness}
+use Rattle.gixobj_editor_files.specs.Unopened.{strict_beginnings, looked_up_entry, entry_in_store, tree_of, unopened_count}
 
 -- the tests of an id agree with the definitions: an id is looked up unless it is null or the empty tree's
 eq_of_is_empty_tree_id : (it : ObjectId) → is_empty_tree_id it ≡ true → it ≡ id_of (id_kind it) Tree []

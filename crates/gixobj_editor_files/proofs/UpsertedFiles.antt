@@ -1,6 +1,7 @@
 -- An upsert into the open directories makes the same files as an upsert of the files, however the directories are
 -- stored: for the editor and `Everywhere`.
-use Rattle.std.proofs.Common.{◌≡◌, ◌≢◌, ◌⊎◌, inl, inr, ⊎_elim, ℕ, zero, suc, ◌-◌, true, false, cond, List, [], ◌∷◌, ◌++◌, length, refl, sym, ap, subst, ◌∙◌, arith, Option, Some, None}
+use Rattle.std.proofs.Common.{◌≡◌, ◌≢◌, ◌⊎◌, inl, inr, ⊎_elim, ℕ, zero, suc, ◌-◌, true, false, cond, List, [], ◌∷◌, ◌++◌, length, refl, sym, ap, subst, ◌∙◌}
+use Rattle.std.proofs.Common.{arith, Option, Some, None}
 use Rattle.gixobj_tree_entries.specs.Entries.{EntryView}
 use Rattle.gixobj_tree_entries.specs.Mode.{is_tree_mode, tree_type}
 use Rattle.gixobj_hash.specs.declared.hash.object_id.ObjectId.{ObjectId}
@@ -10,7 +11,9 @@ use Rattle.gixobj_editor_files.specs.Files.{Begins, Below, FileSet, Files, Conta
 use Rattle.gixobj_editor_files.specs.Opening.{Dirs, HasAt, OpenFiles, in_dir}
 use Rattle.gixobj_editor_files.proofs.EditedFiles.{has_with_entry_new, has_of_with_entry, has_with_entry_other, sub_len_one, same_files_refl}
 use Rattle.gixobj_editor_files.proofs.HasTrees.{entry_of_has_tree, has_tree_with_directory}
-use Rattle.gixobj_editor_files.proofs.OpenedFiles.{open_files_of_other_name, open_files_of_open, open_files_of_unopened, open_files_into_open, open_files_into_unopened, same_name_refl, same_name_false, path_nil_below_file, no_open_files_of_none, name_eq_or_ne}
+use Rattle.gixobj_editor_files.proofs.OpenedFiles.{open_files_of_other_name, open_files_of_open, open_files_of_unopened, open_files_into_open}
+use Rattle.gixobj_editor_files.proofs.OpenedFiles.{open_files_into_unopened, same_name_refl, same_name_false, path_nil_below_file, no_open_files_of_none}
+use Rattle.gixobj_editor_files.proofs.OpenedFiles.{name_eq_or_ne}
 
 -- a directory that is created leaves entries of other names unchanged
 pub has_of_with_directory : (name : List ℕ) (null : ObjectId) (es : List EntryView) (e : EntryView) → e.name ≢ name

@@ -1,6 +1,7 @@
 -- The files of a tree to a depth, and what an edit makes of a set of files (gitglossary, "tree object"; gitrevisions,
 -- "<rev>:<path>").
-use Rattle.std.specs.Prelude.{◌≡◌, ◌⊎◌, ◌↔◌, ◌≤◌, ◌-◌, ℕ, zero, suc, Bool, List, [], ◌∷◌, ◌++◌, ◌==◌, true, IsFalse, MatchOption, Option, Some, None, if◌then◌else◌, length}
+use Rattle.std.specs.Prelude.{◌≡◌, ◌⊎◌, ◌↔◌, ◌≤◌, ◌-◌, ℕ, zero, suc, Bool, List, [], ◌∷◌, ◌++◌, ◌==◌, true, IsFalse}
+use Rattle.std.specs.Prelude.{MatchOption, Option, Some, None, if◌then◌else◌, length}
 use Rattle.std.specs.List.{list_all}
 use Rattle.gixobj_tree_entries.specs.Entries.{EntryView}
 use Rattle.gixobj_hash.specs.Hash.{id_bytes, id_of}

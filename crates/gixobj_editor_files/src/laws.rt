@@ -10,7 +10,8 @@ ghost use Rattle.gixobj_editor_files.specs.History.{FilesAfter, Step};
 ghost use Rattle.gixobj_editor_files.specs.Opening.{IsOpened};
 ghost use Rattle.gixobj_editor_files.specs.PlainHistory.{HasNoTree, NoFiles, PlainFilesAfter};
 ghost use Rattle.gixobj_editor_files.specs.State.{root_alone};
-ghost use Rattle.gixobj_editor_files.specs.Tables.{AgreesWithPairs, AgreesWithStore, IsConsistentWith, IsTableOfStore, IsTableOf};
+ghost use Rattle.gixobj_editor_files.specs.Tables.{AgreesWithPairs, AgreesWithStore, IsConsistentWith, IsTableOfStore};
+ghost use Rattle.gixobj_editor_files.specs.Tables.{IsTableOf};
 
 /// Every list of pairs, each an id with its tree, has a table.
 ///

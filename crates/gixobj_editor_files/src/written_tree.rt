@@ -1,5 +1,6 @@
 //! The written tree of an open directory, built next to the base that the directory was opened with.
-ghost use Rattle.std.specs.Prelude.{◌≡◌, ◌≢◌, ◌↔◌, ◌++◌, ◌∷◌, [], ◌==◌, IfOk, IsTrue, List, OnErr, OnOk, Some, length, slice_get};
+ghost use Rattle.std.specs.Prelude.{◌≡◌, ◌≢◌, ◌↔◌, ◌++◌, ◌∷◌, [], ◌==◌, IfOk, IsTrue, List, OnErr, OnOk, Some, length};
+ghost use Rattle.std.specs.Prelude.{slice_get};
 ghost use Rattle.gixobj_tree_entries.specs.Entries.{EntryView};
 ghost use Rattle.gixobj_tree_entries.specs.EntryOrder.{same_entry};
 ghost use Rattle.gixobj_editor_files.specs.WrittenTrees.{SharesBase, so_far, with_id};

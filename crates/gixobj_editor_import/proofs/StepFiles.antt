@@ -15,7 +15,8 @@ use Rattle.gixobj_store_keep.specs.Keeping.{with_commit, with_trees}
 use Rattle.gixobj_editor.specs.RunTables.{AgreesWithObjects}
 use Rattle.gixobj_editor_import.specs.Commits.{encode_step}
 use Rattle.gixobj_editor_import.specs.Edited.{steps_if_done}
-use Rattle.gixobj_editor_import.specs.Imports.{AgreesWithImports, AgreesWithStep, HasFilesOf, HaveFiles, HaveFilesOfNothing, IsNewImporter, edits_of, pairs_of_imports, with_imports}
+use Rattle.gixobj_editor_import.specs.Imports.{AgreesWithImports, AgreesWithStep, HasFilesOf, HaveFiles, HaveFilesOfNothing, IsNewImporter, edits_of}
+use Rattle.gixobj_editor_import.specs.Imports.{pairs_of_imports, with_imports}
 use Rattle.gixobj_editor_import.specs.Steps.{AreImported, IsImported}
 use Rattle.gixobj_editor_import.specs.declared.import.Imported.{Imported}
 use Rattle.gixobj_editor_import.specs.declared.import.Importer.{Importer}

@@ -1,6 +1,7 @@
 -- Steps that are imported one after the other, and their results: for the functions of `import`, `commits` and
 -- `written`.
-use Rattle.std.proofs.Common.{◌≡◌, ◌∙◌, ◌<◌, ◌≤◌, ◌+◌, ⊎_elim, ℕ, zero, suc, List, [], ◌∷◌, ◌++◌, Option, Some, ap, arith, get_or, inl, length, refl, subst, sym, take, Err, Ok, Result}
+use Rattle.std.proofs.Common.{◌≡◌, ◌∙◌, ◌<◌, ◌≤◌, ◌+◌, ⊎_elim, ℕ, zero, suc, List, [], ◌∷◌, ◌++◌, Option, Some, ap, arith, get_or, inl, length, refl, subst}
+use Rattle.std.proofs.Common.{sym, take, Err, Ok, Result}
 use Rattle.std.proofs.lemmas.Bool.{true≢false}
 use Rattle.std.proofs.lemmas.List.{take_all, take_more}
 use Rattle.std.specs.Prelude.{◌↔◌, Bool, true, false, Contains, IfErr, IfOk, IsTrue, slice_get}
@@ -12,7 +13,8 @@ use Rattle.gixobj_hash.specs.declared.hash.kind.Kind as hash
 use Rattle.gixobj_hash.specs.declared.hash.object_id.ObjectId.{ObjectId}
 use Rattle.gixobj_editor.specs.declared.reply.EditReply.TheVariants as reply
 use Rattle.gixobj_editor_import.specs.Edited.{AreDone, IsWriteAfter, IsWriteReplied}
-use Rattle.gixobj_editor_import.specs.Steps.{AreImported, IsImported, IsStepFailed, IsStepEditsError, IsStepError, IsStepCommitError, IsStepEncodeError, IsStepWriteError, Stops}
+use Rattle.gixobj_editor_import.specs.Steps.{AreImported, IsImported, IsStepFailed, IsStepEditsError, IsStepError, IsStepCommitError, IsStepEncodeError}
+use Rattle.gixobj_editor_import.specs.Steps.{IsStepWriteError, Stops}
 use Rattle.gixobj_editor_import.specs.declared.import.ImportError.{ImportError}
 use Rattle.gixobj_editor_import.specs.declared.import.ImportError.TheVariants as import
 use Rattle.gixobj_editor_import.specs.declared.import.Imported.{Imported}

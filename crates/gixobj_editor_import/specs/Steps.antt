@@ -1,5 +1,6 @@
 -- The results of a step of an importer, and of a list of steps.
-use Rattle.std.specs.Prelude.{◌≡◌, ◌⊎◌, ℕ, true, false, All, Contains, List, [], ◌∷◌, Option, Some, length, slice_get, take, ⊤}
+use Rattle.std.specs.Prelude.{◌≡◌, ◌⊎◌, ℕ, true, false, All, Contains, List, [], ◌∷◌, Option, Some, length, slice_get}
+use Rattle.std.specs.Prelude.{take, ⊤}
 use Rattle.gixobj_actor.specs.ActorWriting.{IsLegal, encode_owned_actor}
 use Rattle.gixobj_editor_commands.specs.declared.command.Edit.{Edit}
 use Rattle.gixobj_editor_commands.specs.declared.command.Edit.TheVariants as edit

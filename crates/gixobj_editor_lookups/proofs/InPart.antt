@@ -1,6 +1,7 @@
 -- Directories on a path that are opened in part, by the end of the opening: for `Edited`, `Removing`, `RemovedAt` and
 -- `CursorPrefixes`.
-use Rattle.std.proofs.Common.{true, ◌≡◌, ◌∙◌, ◌≤◌, ℕ, Bool, List, [], ◌∷◌, ◌++◌, Option, Some, None, append-nil, append_assoc, arith, length, refl, sym, ap, subst}
+use Rattle.std.proofs.Common.{true, ◌≡◌, ◌∙◌, ◌≤◌, ℕ, Bool, List, [], ◌∷◌, ◌++◌, Option, Some, None, append-nil, append_assoc, arith, length, refl, sym, ap}
+use Rattle.std.proofs.Common.{subst}
 use Rattle.gixobj_tree_entries.specs.Entries.{EntryView}
 use Rattle.gixobj_hash.specs.declared.hash.object_id.ObjectId.{ObjectId}
 use Rattle.gixobj_editor_files.specs.Edits.{Opens, arrived, counted}

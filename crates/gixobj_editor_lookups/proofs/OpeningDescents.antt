@@ -1,6 +1,7 @@
 -- An opening of a directory, and then of the rest of the path in it, is an opening of the entire path: for openings
 -- that a loop makes one after the other.
-use Rattle.std.proofs.Common.{Bool, ◌≡◌, ◌<◌, ◌+◌, drop, get_or, length, take, ◌≢◌, ◌∙◌, ℕ, true, false, cond, List, [], ◌∷◌, ◌++◌, Option, Some, None, refl, sym, ap, subst}
+use Rattle.std.proofs.Common.{Bool, ◌≡◌, ◌<◌, ◌+◌, drop, get_or, length, take, ◌≢◌, ◌∙◌, ℕ, true, false, cond, List, [], ◌∷◌, ◌++◌, Option, Some, None, refl}
+use Rattle.std.proofs.Common.{sym, ap, subst}
 use Rattle.std.proofs.lemmas.List.{append-nil, append_assoc, take-append-drop}
 use Rattle.gixobj_hash.specs.declared.hash.object_id.ObjectId.{ObjectId}
 use Rattle.gixobj_tree_entries.specs.Entries.{EntryView}
@@ -26,8 +27,10 @@ use Rattle.bstr.specs.declared.bstring.BString.{BString}
 use Rattle.gixobj_editor_open.specs.Paths.{names_of}
 use Rattle.std.specs.Cmp.Lexicographic.{bytes_decides}
 use Rattle.gixobj_editor_open.proofs.BaseSteps.{opening, unmoved}
-use Rattle.gixobj_editor_open.proofs.Descents.{at_ascent, at_descent, bases_at_ascent, in_dir_with_dir, is_descended_nil, is_descended_snoc, names_of_parts, names_of_take_more, with_dir_twice, with_path_append}
-use Rattle.gixobj_editor_lookups.proofs.OpeningSteps.{GoesDown, GoesIn, HaltsAt, IsFormedList, OpensAs, StaysOpened, counted_append, stays_opened_goes_down, halts_at_goes_down, halts_at_goes_in, opens_goes_down, opens_goes_in}
+use Rattle.gixobj_editor_open.proofs.Descents.{at_ascent, at_descent, bases_at_ascent, in_dir_with_dir, is_descended_nil, is_descended_snoc, names_of_parts}
+use Rattle.gixobj_editor_open.proofs.Descents.{names_of_take_more, with_dir_twice, with_path_append}
+use Rattle.gixobj_editor_lookups.proofs.OpeningSteps.{GoesDown, GoesIn, HaltsAt, IsFormedList, OpensAs, StaysOpened, counted_append, stays_opened_goes_down}
+use Rattle.gixobj_editor_lookups.proofs.OpeningSteps.{halts_at_goes_down, halts_at_goes_in, opens_goes_down, opens_goes_in}
 
 same_head : (x y : List ℕ) (xs ys : Path) → x ∷ xs ≡ y ∷ ys → x ≡ y
 same_head x y xs ys is = cc is

@@ -1,6 +1,7 @@
 -- An opening of a path is an opening of its first directory and one of the rest below it: for `open_along` and the
 -- other calls that take a path, and for the editor's openings.
-use Rattle.std.proofs.Common.{◌≡◌, ◌≢◌, inl, inr, ◌∙◌, ◌≤◌, ℕ, Bool, true, false, cond, List, [], ◌∷◌, ◌++◌, Option, Some, None, length, length-append, refl, sym, ap, subst, arith}
+use Rattle.std.proofs.Common.{◌≡◌, ◌≢◌, inl, inr, ◌∙◌, ◌≤◌, ℕ, Bool, true, false, cond, List, [], ◌∷◌, ◌++◌, Option, Some, None, length, length-append, refl}
+use Rattle.std.proofs.Common.{sym, ap, subst, arith}
 use Rattle.std.specs.Prelude.{◌&&◌, IfNone}
 use Rattle.std.proofs.lemmas.Bool.{and_parts}
 use Rattle.std.specs.Option.{option_copied}
@@ -27,7 +28,8 @@ use Rattle.gixobj_editor_files.proofs.Counts.{raised_raised}
 use Rattle.gixobj_editor_files.proofs.UnopenedCounts.{IsIdle}
 use Rattle.gixobj_editor_files.proofs.StillOpenedOpenings.{is_opened_in_dir, is_opened_of_only, is_opened_with_dir}
 use Rattle.gixobj_editor_files.proofs.HasTrees.{entry_of_has_tree, has_tree_of_entry}
-use Rattle.gixobj_editor_open.proofs.Levels.{IsChanged, IsChild, dirs_of_opened_cons, child_has_tree, is_level_with_part, is_level_set, becomes_of_with_part, becomes_of_set}
+use Rattle.gixobj_editor_open.proofs.Levels.{IsChanged, IsChild, dirs_of_opened_cons, child_has_tree, is_level_with_part, is_level_set, becomes_of_with_part}
+use Rattle.gixobj_editor_open.proofs.Levels.{becomes_of_set}
 use Rattle.gixobj_editor_open.proofs.Levels as levels
 use Rattle.gixobj_editor_open.proofs.Steps.{dirs_of_childless, replaced}
 use Rattle.gixobj_editor_open.proofs.Ordered.{level_names_apart}

@@ -3,7 +3,8 @@ ghost use Rattle.std.specs.Prelude.{◌≡◌, ◌≢◌, ◌≤◌, ◌++◌, [
 ghost use Rattle.bstr.specs.Owned.{bstring_bytes};
 ghost use Rattle.gixobj_tree.specs.WellFormed.{IsEntryName};
 ghost use Rattle.gixobj_editor_open.specs.Paths.{AreNames, names_of};
-ghost use Rattle.gixobj_editor_lookups.specs.EditNames.{from_root, SplitsForRemoval, IsEntryNameError, IsFirstNameError, StartsInvalid, directory_of};
+ghost use Rattle.gixobj_editor_lookups.specs.EditNames.{from_root, SplitsForRemoval, IsEntryNameError};
+ghost use Rattle.gixobj_editor_lookups.specs.EditNames.{IsFirstNameError, StartsInvalid, directory_of};
 
 use crate::error::Error;
 use bstr::BString;

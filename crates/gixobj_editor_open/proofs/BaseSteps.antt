@@ -14,7 +14,9 @@ use Rattle.gixobj_editor_files.specs.Editing.{same_name}
 use Rattle.gixobj_editor_files.specs.Files.{Path}
 use Rattle.gixobj_editor_files.specs.Opening.{Dirs}
 use Rattle.gixobj_editor_open.specs.Nested.{IsLevel, Opened, Part, base_side, bases_in, bases_of, dirs_of, in_part, opened, other_parts, parts, with_part}
-use Rattle.gixobj_editor_open.proofs.Levels.{Becomes, BecomesBy, IsChanged, IsChild, dirs_of_opened_cons, at_name_by, bases_of_cons, bases_of_nil, in_part_of_child, found_by, dirs_of_cons, is_level_set, is_level_with_part, dirs_of_nil, becomes_of_removal, others_becomes_by, becomes_of_with_part, with_becomes_by, becomes_of_set, set_becomes_by, tied}
+use Rattle.gixobj_editor_open.proofs.Levels.{Becomes, BecomesBy, IsChanged, IsChild, dirs_of_opened_cons, at_name_by, bases_of_cons, bases_of_nil}
+use Rattle.gixobj_editor_open.proofs.Levels.{in_part_of_child, found_by, dirs_of_cons, is_level_set, is_level_with_part, dirs_of_nil, becomes_of_removal}
+use Rattle.gixobj_editor_open.proofs.Levels.{others_becomes_by, becomes_of_with_part, with_becomes_by, becomes_of_set, set_becomes_by, tied}
 use Rattle.gixobj_editor_open.proofs.Ordered.{level_names_apart}
 
 -- a directory that isn't open has no base

@@ -1,7 +1,8 @@
 -- The directory that `with_inner` sets at a name is the one that `inner` finds there, in any list of open directories
 -- and in one level. Descents use it.
 use mathlib.Core.Bool.{true≢false}
-use Rattle.std.proofs.Common.{zero, suc, ◌≡◌, ◌≢◌, ◌<◌, ◌+◌, ℕ, true, false, not, cond, List, [], ◌∷◌, ◌++◌, Some, None, get_or, length, nat_lt, refl, sym, ap, subst, ◌∙◌, one-add, arith}
+use Rattle.std.proofs.Common.{zero, suc, ◌≡◌, ◌≢◌, ◌<◌, ◌+◌, ℕ, true, false, not, cond, List, [], ◌∷◌, ◌++◌, Some, None, get_or, length, nat_lt, refl, sym, ap}
+use Rattle.std.proofs.Common.{subst, ◌∙◌, one-add, arith}
 use Rattle.std.specs.Prelude.{◌&&◌, ◌||◌, set}
 use Rattle.std.specs.Cmp.Lexicographic.{bytes_decides}
 use Rattle.std.specs.List.{AllByRecursion, position, position_or_len}
@@ -17,7 +18,8 @@ use Rattle.gixobj_editor_files.proofs.OpenedFiles.{same_name_false, same_name_re
 use Rattle.gixobj_editor_open.specs.Descents.{IsExchanged, has_inner, inner, is_in, outside, with_inner}
 use Rattle.gixobj_editor_open.specs.Nested.{IsLevel, Level, Opened, Part, at_side, bases_of, below, called, dirs_of, opened, part, parts, under}
 use Rattle.gixobj_editor_open.specs.declared.open.Child.{Child}
-use Rattle.gixobj_editor_open.proofs.Levels.{IsChanged, IsChild, all_names_differ, child_has_tree, is_level_set, parts_set_same, tied, tied_cons, true_of_cond_some}
+use Rattle.gixobj_editor_open.proofs.Levels.{IsChanged, IsChild, all_names_differ, child_has_tree, is_level_set, parts_set_same, tied, tied_cons}
+use Rattle.gixobj_editor_open.proofs.Levels.{true_of_cond_some}
 use Rattle.gixobj_editor_open.proofs.Ordered.{level_names_apart}
 
 module _ (name : List ℕ) where

@@ -1,7 +1,8 @@
 -- One level of open directories: what is open at the directory itself, and at and below each name in it. All proofs of
 -- open directories use it.
 use mathlib.Core.Bool.{true≢false}
-use Rattle.std.proofs.Common.{inl, inr, zero, suc, ◌≡◌, ◌≢◌, ◌<◌, ◌≤◌, ◌+◌, ℕ, Bool, true, false, not, cond, Less, Equal, Greater, List, [], ◌∷◌, ◌++◌, Option, Some, None, get_or, length, nat_lt, refl, sym, ap, subst, ◌∙◌, one-add, arith}
+use Rattle.std.proofs.Common.{inl, inr, zero, suc, ◌≡◌, ◌≢◌, ◌<◌, ◌≤◌, ◌+◌, ℕ, Bool, true, false, not, cond, Less, Equal, Greater, List, [], ◌∷◌, ◌++◌, Option}
+use Rattle.std.proofs.Common.{Some, None, get_or, length, nat_lt, refl, sym, ap, subst, ◌∙◌, one-add, arith}
 use Rattle.std.specs.Prelude.{◌&&◌, set}
 use Rattle.std.specs.Cmp.{tied_then}
 use Rattle.std.specs.Cmp.Lexicographic.{bytes_decides, slice_cmp, texts_ties}
@@ -16,11 +17,13 @@ use Rattle.gixobj_hash.specs.declared.hash.object_id.ObjectId.{ObjectId}
 use Rattle.gixobj_editor_files.specs.Editing.{has_tree, same_name, with_entry, without}
 use Rattle.gixobj_editor_files.specs.Edits.{with_directory}
 use Rattle.gixobj_editor_files.specs.Files.{Path}
-use Rattle.gixobj_editor_open.specs.Nested.{IsLevel, Level, Opened, Part, at_side, base_side, bases_in, bases_of, below, called, dirs_of, entries_side, in_part, opened, other_parts, part, part_at, part_key, parts, under, with_part}
+use Rattle.gixobj_editor_open.specs.Nested.{IsLevel, Level, Opened, Part, at_side, base_side, bases_in, bases_of, below, called, dirs_of, entries_side, in_part}
+use Rattle.gixobj_editor_open.specs.Nested.{opened, other_parts, part, part_at, part_key, parts, under, with_part}
 use Rattle.gixobj_editor_files.specs.Opening.{Dirs}
 use Rattle.gixobj_editor_open.specs.declared.open.Child.{Child}
 use Rattle.gixobj_editor_files.proofs.WellFormedEdits.{is_well_formed_with_entry, is_well_formed_without}
-use Rattle.gixobj_editor_files.proofs.HasTrees.{is_well_formed_with_directory, has_tree_with_other_directory, has_tree_without_other, has_tree_with_entry, has_tree_with_directory}
+use Rattle.gixobj_editor_files.proofs.HasTrees.{is_well_formed_with_directory, has_tree_with_other_directory, has_tree_without_other, has_tree_with_entry}
+use Rattle.gixobj_editor_files.proofs.HasTrees.{has_tree_with_directory}
 use Rattle.gixobj_editor_entries.proofs.Sublists.{all_pass, all_weaker, later_kept}
 use Rattle.gixobj_editor_entries.specs.Pieces.{is_after, is_before}
 use Rattle.gixobj_tree_entries.proofs.TiedBytes.{eq_of_slice_cmp_equal}

@@ -1,6 +1,7 @@
 -- The open directory at a position in pieces is the one at its index in the list, also once it is changed; used for the
 -- calls of `Children` and the descents of `Open`.
-use Rattle.std.proofs.Common.{◌≡◌, ◌≢◌, ◌∙◌, ◌<◌, ◌≤◌, ℕ, Bool, zero, suc, true, false, cond, List, [], ◌∷◌, ◌++◌, Some, None, get_or, length, length-append, set, refl, sym, ap, subst, arith}
+use Rattle.std.proofs.Common.{◌≡◌, ◌≢◌, ◌∙◌, ◌<◌, ◌≤◌, ℕ, Bool, zero, suc, true, false, cond, List, [], ◌∷◌, ◌++◌, Some, None, get_or, length, length-append}
+use Rattle.std.proofs.Common.{set, refl, sym, ap, subst, arith}
 use Rattle.std.specs.List.{flat_map, position}
 use Rattle.std.specs.Vec.{with_item}
 use Rattle.std.specs.declared.alloc.Global.{Global}
@@ -15,7 +16,8 @@ use Rattle.gixobj_editor_files.specs.Editing.{same_name}
 use Rattle.gixobj_editor_entries.specs.Pieces.{AreNonEmpty, IsPieced, flat_index, has_key, joined}
 use Rattle.gixobj_editor_open.specs.Children.{IsAt, index_of_child, with_child}
 use Rattle.gixobj_editor_open.specs.Decreases.{length-below_append}
-use Rattle.gixobj_editor_open.specs.Nested.{AreFilled, AreOrdered, IsPiecedLevel, Opened, below, called, child_key, child_list, length-under, part, parts, under}
+use Rattle.gixobj_editor_open.specs.Nested.{AreFilled, AreOrdered, IsPiecedLevel, Opened, below, called, child_key, child_list, length-under, part, parts}
+use Rattle.gixobj_editor_open.specs.Nested.{under}
 use Rattle.gixobj_editor_open.specs.Children.{next_child, pairs_after_next}
 use Rattle.gixobj_editor_open.specs.declared.open.Child.{Child}
 use Rattle.gixobj_editor_open.specs.declared.open.Children.{Children}

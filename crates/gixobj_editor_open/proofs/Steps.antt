@@ -15,12 +15,14 @@ use Rattle.gixobj_tree.specs.WellFormed.{EachLater}
 use Rattle.gixobj_hash.specs.declared.hash.object_id.ObjectId.{ObjectId}
 use Rattle.gixobj_editor_open.specs.Paths.{names_of}
 use Rattle.gixobj_editor_files.specs.Editing.{same_name, with_entry, without}
-use Rattle.gixobj_editor_files.specs.Edits.{ensured_dirs, entry_at, first_entry_of, only_open, or_empty, removed_dirs, upserted_dirs, with_dir, with_directory, with_path}
+use Rattle.gixobj_editor_files.specs.Edits.{ensured_dirs, entry_at, first_entry_of, only_open, or_empty, removed_dirs, upserted_dirs, with_dir, with_directory}
+use Rattle.gixobj_editor_files.specs.Edits.{with_path}
 use Rattle.gixobj_editor_files.specs.Files.{Path}
 use Rattle.gixobj_editor_open.specs.Nested.{Opened, Part, base_side, bases_of, called, dirs_of, in_part, opened, parts}
 use Rattle.gixobj_editor_files.specs.Opening.{Dirs, in_dir}
 use Rattle.gixobj_editor_open.specs.declared.open.Child.{Child}
-use Rattle.gixobj_editor_open.proofs.Levels.{Becomes, IsChild, dirs_of_opened_cons, bases_of_cons, in_part_of_child, found_by, dirs_of_cons, dirs_of_nil, in_part_none}
+use Rattle.gixobj_editor_open.proofs.Levels.{Becomes, IsChild, dirs_of_opened_cons, bases_of_cons, in_part_of_child, found_by, dirs_of_cons, dirs_of_nil}
+use Rattle.gixobj_editor_open.proofs.Levels.{in_part_none}
 use Rattle.gixobj_editor_files.proofs.RemovedFiles.{removed_dirs_of_none}
 
 -- a path of one name, and one of more

@@ -1,5 +1,6 @@
 -- The open directories in a directory, in pieces: their positions, a changed one, and those that remain in a walk.
-use Rattle.std.specs.Prelude.{◌≡◌, ◌<◌, ℕ, zero, suc, List, [], ◌∷◌, Option, Some, None, get_or, vec_capacity, vec_len, true, if◌then◌else◌}
+use Rattle.std.specs.Prelude.{◌≡◌, ◌<◌, ℕ, zero, suc, List, [], ◌∷◌, Option, Some, None, get_or, vec_capacity, vec_len}
+use Rattle.std.specs.Prelude.{true, if◌then◌else◌}
 use Rattle.std.specs.Borrow.{Fml, Lends, MutBor}
 use Rattle.std.specs.Vec.{with_item}
 use Rattle.std.specs.declared.alloc.Global.{Global}

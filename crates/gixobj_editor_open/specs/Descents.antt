@@ -1,5 +1,6 @@
 -- Descents along open directories: each directory above is exchanged for the one in it, and restored on the way back.
-use Rattle.std.specs.Prelude.{◌≡◌, ◌||◌, Bool, true, false, not, List, [], ◌∷◌, ◌++◌, ℕ, Some, reverse, take, if◌then◌else◌}
+use Rattle.std.specs.Prelude.{◌≡◌, ◌||◌, Bool, true, false, not, List, [], ◌∷◌, ◌++◌, ℕ, Some, reverse, take}
+use Rattle.std.specs.Prelude.{if◌then◌else◌}
 use Rattle.std.specs.List.{filter}
 use Rattle.bstr.specs.declared.bstring.BString.{BString}
 use Rattle.gixobj_editor_open.specs.Paths.{names_of}

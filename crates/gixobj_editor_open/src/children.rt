@@ -7,7 +7,8 @@ ghost use Rattle.bstr.specs.Owned.{bstring_bytes};
 ghost use Rattle.gixobj_editor_files.specs.Editing.{same_name};
 ghost use Rattle.gixobj_editor_entries.specs.Pieces.{AreNonEmpty};
 ghost use Rattle.gixobj_editor_open.specs.Children.{HasRoom, IsAt, LendsChild, index_of_child, remaining_list};
-ghost use Rattle.gixobj_editor_open.specs.Nested.{AreFilled, AreOrdered, called, child_list, other_parts, parts, with_part};
+ghost use Rattle.gixobj_editor_open.specs.Nested.{AreFilled, AreOrdered, called, child_list, other_parts, parts};
+ghost use Rattle.gixobj_editor_open.specs.Nested.{with_part};
 ghost use Rattle.gixobj_editor_open.specs.Children.{next_child, pairs_after_next};
 ghost use Rattle.gixobj_editor_open.specs.declared.open.Child.{Child};
 

@@ -1,5 +1,6 @@
 //! Edits at deep paths: a loop goes down the open directories of the path, and another restores those above.
-ghost use Rattle.std.specs.Prelude.{◌≡◌, ◌≢◌, ◌≤◌, ◌++◌, [], IsFalse, IsTrue, List, OnErr, OnOk, Some, length, reverse, take};
+ghost use Rattle.std.specs.Prelude.{◌≡◌, ◌≢◌, ◌≤◌, ◌++◌, [], IsFalse, IsTrue, List, OnErr, OnOk, Some, length, reverse};
+ghost use Rattle.std.specs.Prelude.{take};
 ghost use Rattle.std.specs.List.{AllByRecursion};
 ghost use Rattle.bstr.specs.Owned.{bstring_bytes};
 ghost use Rattle.gixobj_tree_entries.specs.Entries.{EntryView};

@@ -1,5 +1,6 @@
 //! Drops of open directories, by loops that allocate nothing: no depth of a path uses up the stack.
-ghost use Rattle.std.specs.Prelude.{◌≡◌, ◌≢◌, ◌++◌, ◌+◌, ◌<◌, ◌∷◌, [], IfNone, IfSome, IsFalse, IsTrue, List, ℕ, length};
+ghost use Rattle.std.specs.Prelude.{◌≡◌, ◌≢◌, ◌++◌, ◌+◌, ◌<◌, ◌∷◌, [], IfNone, IfSome, IsFalse, IsTrue, List, ℕ};
+ghost use Rattle.std.specs.Prelude.{length};
 ghost use Rattle.std.specs.List.{flat_map};
 ghost use Rattle.bstr.specs.Owned.{bstring_bytes};
 ghost use Rattle.gixobj_editor_entries.specs.Pieces.{AreNonEmpty};

@@ -12,7 +12,8 @@ ghost use Rattle.gixobj_editor_files.specs.Editing.{has_tree, same_name, with_en
 ghost use Rattle.gixobj_editor_files.specs.Edits.{entry_at, removed_dirs, upserted_dirs, with_directory};
 ghost use Rattle.gixobj_editor_files.specs.Files.{Path};
 ghost use Rattle.gixobj_editor_open.specs.Paths.{names_of};
-ghost use Rattle.gixobj_editor_open.specs.Nested.{AreFilled, AreOrdered, IsPiecedLevel, bases_of, child_list, dirs_of, opened, parts, with_part};
+ghost use Rattle.gixobj_editor_open.specs.Nested.{AreFilled, AreOrdered, IsPiecedLevel, bases_of, child_list, dirs_of};
+ghost use Rattle.gixobj_editor_open.specs.Nested.{opened, parts, with_part};
 ghost use Rattle.gixobj_editor_files.specs.Bases.{edited_bases};
 
 use crate::copying::copied;

@@ -1,6 +1,7 @@
 -- Frames of a walk: a step along an entry, a directory that begins, one that ends, and where the walk stops; for the
 -- functions of `frames` and `walk`.
-use Rattle.std.proofs.Common.{◌≡◌, ◌∙◌, ◌+◌, ◌<◌, ◌≤◌, ℕ, suc, true, false, cond, List, [], ◌∷◌, ◌++◌, Option, Some, None, drop, get_or, length, sym, ap, subst, arith, add-one, append_assoc, append-nil, drop-cons, length-drop}
+use Rattle.std.proofs.Common.{◌≡◌, ◌∙◌, ◌+◌, ◌<◌, ◌≤◌, ℕ, suc, true, false, cond, List, [], ◌∷◌, ◌++◌, Option, Some, None, drop, get_or, length, sym, ap, subst}
+use Rattle.std.proofs.Common.{arith, add-one, append_assoc, append-nil, drop-cons, length-drop}
 use Rattle.std.specs.declared.alloc.Global.{Global}
 use Rattle.std.specs.declared.vec.Vec.{Vec}
 use Rattle.bstr.specs.Owned.{bstring_bytes}
@@ -15,7 +16,8 @@ use Rattle.gixobj_editor_files.specs.declared.written_tree.WrittenTree.{WrittenT
 use Rattle.gixobj_editor_files.specs.declared.written_tree.WrittenTree.TheVariants.{Prefix}
 use Rattle.gixobj_editor_write.specs.Calls.{IsStorable}
 use Rattle.gixobj_editor_open.specs.Children.{remaining_list}
-use Rattle.gixobj_editor_write.specs.Frames.{Ahead, EmitsAfter, EmitsNext, EmitsWritten, HasEmitted, HasResumed, IsBegun, IsInStep, Waits, child_weight, frame_weight, held_entries, written_entries, remaining_entries, weight_of}
+use Rattle.gixobj_editor_write.specs.Frames.{Ahead, EmitsAfter, EmitsNext, EmitsWritten, HasEmitted, HasResumed, IsBegun, IsInStep, Waits, child_weight}
+use Rattle.gixobj_editor_write.specs.Frames.{frame_weight, held_entries, written_entries, remaining_entries, weight_of}
 use Rattle.gixobj_editor_write.specs.TakenTrees.{child_leaf_trees}
 use Rattle.gixobj_editor_open.specs.LeafTrees.{inside_of, leaf_trees}
 use Rattle.gixobj_editor_open.specs.Nested.{IsLevel, Opened, base_side, bases_of, below, dirs_of, entries_side, opened, parts, under}

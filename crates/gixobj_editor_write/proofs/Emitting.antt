@@ -1,7 +1,8 @@
 -- What one entry emits, what a walk along the entries emits, and where it stops: for the functions of `write`, and the
 -- errors of the editor.
 use mathlib.Core.Bool.{true≢false}
-use Rattle.std.proofs.Common.{◌≡◌, ◌≢◌, ◌⊎◌, inl, inr, ⊎_elim, ◌∙◌, ◌≤◌, ◌<◌, ◌+◌, ℕ, suc, zero, max, Bool, true, false, cond, List, [], ◌∷◌, ◌++◌, Option, Some, None, length, get_or, drop, Result, refl, sym, ap, subst, arith, append_assoc, append-nil, add-one, drop-cons}
+use Rattle.std.proofs.Common.{◌≡◌, ◌≢◌, ◌⊎◌, inl, inr, ⊎_elim, ◌∙◌, ◌≤◌, ◌<◌, ◌+◌, ℕ, suc, zero, max, Bool, true, false, cond, List, [], ◌∷◌, ◌++◌, Option}
+use Rattle.std.proofs.Common.{Some, None, length, get_or, drop, Result, refl, sym, ap, subst, arith, append_assoc, append-nil, add-one, drop-cons}
 use Rattle.std.specs.Prelude.{◌==◌, ◌&&◌, IsFalse}
 use Rattle.std.specs.List.{AllByRecursion, FoldsTo}
 use Rattle.std.specs.Option.{option_copied}
@@ -19,7 +20,8 @@ use Rattle.gixobj_editor_files.specs.Edits.{raised}
 use Rattle.gixobj_editor_files.specs.Files.{Path, is_null}
 use Rattle.gixobj_editor_write.specs.WriteErrors.{IsWriteError, EmitsEntry, child_side}
 use Rattle.gixobj_hash.specs.declared.hash.object_id.ObjectId.TheVariants.{Sha1}
-use Rattle.gixobj_editor_files.specs.Emission.{EmitsSome, EmitsBelow, EmitsEntries, left_out_if_empty, end, entry_unless_null, of_entries, unopened, unchanged, written}
+use Rattle.gixobj_editor_files.specs.Emission.{EmitsSome, EmitsBelow, EmitsEntries, left_out_if_empty, end, entry_unless_null, of_entries, unopened, unchanged}
+use Rattle.gixobj_editor_files.specs.Emission.{written}
 use Rattle.gixobj_editor_open.specs.Nested.{Level, Opened, at_side, bases_of, dirs_of}
 use Rattle.gixobj_editor_open.specs.declared.open.Child.{Child}
 use Rattle.gixobj_editor_files.specs.Opening.{Dirs, in_dir}

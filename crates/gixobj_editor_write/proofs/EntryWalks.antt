@@ -1,7 +1,8 @@
 -- A walk along the entries of a directory meets each directory that is open in it at its entry: for the loops of a
 -- write and for leaf trees.
 use mathlib.Core.Bool.{true≢false}
-use Rattle.std.proofs.Common.{◌≡◌, ◌≢◌, ◌∙◌, ◌<◌, ◌+◌, inl, inr, ℕ, suc, true, false, cond, List, [], ◌∷◌, Option, Some, None, get_or, length, drop, refl, sym, ap, subst, add-one, drop-cons}
+use Rattle.std.proofs.Common.{◌≡◌, ◌≢◌, ◌∙◌, ◌<◌, ◌+◌, inl, inr, ℕ, suc, true, false, cond, List, [], ◌∷◌, Option, Some, None, get_or, length, drop, refl, sym}
+use Rattle.std.proofs.Common.{ap, subst, add-one, drop-cons}
 use Rattle.std.specs.Cmp.Lexicographic.{bytes_decides, slice_cmp}
 use Rattle.std.specs.List.{AllByRecursion}
 use Rattle.std.specs.Ordering.{is_lt, nat_cmp}

@@ -1,6 +1,7 @@
 -- What is open in the directories of a list, moved on by one: its leaf trees stay in their order; used for the calls
 -- named `move_on`.
-use Rattle.std.proofs.Common.{◌≡◌, ◌≢◌, ◌∙◌, ◌≤◌, ◌<◌, ◌+◌, ℕ, Less, List, [], ◌∷◌, ◌++◌, true, drop, get_or, set, take, length, length-append, refl, sym, ap, arith}
+use Rattle.std.proofs.Common.{◌≡◌, ◌≢◌, ◌∙◌, ◌≤◌, ◌<◌, ◌+◌, ℕ, Less, List, [], ◌∷◌, ◌++◌, true, drop, get_or, set, take, length, length-append, refl, sym, ap}
+use Rattle.std.proofs.Common.{arith}
 use Rattle.std.proofs.lemmas.List.{append-nil, append_assoc, drop-set-lt, drop_more, map-append, take_more_set}
 use Rattle.std.specs.List.{AllByRecursion, flat_map}
 use Rattle.std.specs.Cmp.Lexicographic.{slice_cmp}

@@ -8,7 +8,8 @@ use denote.Ref.{Bor}
 use Rattle.gixobj_tree_entries.specs.Entries.{EntryView, Pair}
 use Rattle.gixobj_editor_files.specs.Edits.{raised}
 use Rattle.gixobj_editor_files.specs.Emission.{EmitsBelow, EmitsEntries, of_entries}
-use Rattle.gixobj_editor_write.specs.Frames.{EmitsAfter, EmitsNext, HasEmitted, HasResumed, HasStepped, Waits, frame_weight, held_entries, written_entries, remaining_entries}
+use Rattle.gixobj_editor_write.specs.Frames.{EmitsAfter, EmitsNext, HasEmitted, HasResumed, HasStepped, Waits, frame_weight, held_entries, written_entries}
+use Rattle.gixobj_editor_write.specs.Frames.{remaining_entries}
 use Rattle.gixobj_editor_write.specs.TakenTrees.{Adds}
 use Rattle.gixobj_editor_open.specs.LeafTrees.{inside_of, leaf_trees}
 use Rattle.gixobj_editor_open.specs.Nested.{Opened, bases_of, dirs_of}
@@ -17,7 +18,8 @@ use Rattle.gixobj_editor_write.specs.declared.frames.Frame.{Frame}
 use Rattle.gixobj_editor_write.specs.declared.walk.Step.TheVariants as step
 use Rattle.gixobj_editor_write.specs.declared.write.WriteError.{WriteError}
 use Rattle.gixobj_editor_write.specs.declared.write.WriteError.TheVariants as write
-use Rattle.gixobj_editor_write.proofs.Emitting.{emits_entry_open, folds_to_append, raised_append, stopped_after_folds, stopped_at_call, walk_exists_of_open, walk_goes}
+use Rattle.gixobj_editor_write.proofs.Emitting.{emits_entry_open, folds_to_append, raised_append, stopped_after_folds, stopped_at_call, walk_exists_of_open}
+use Rattle.gixobj_editor_write.proofs.Emitting.{walk_goes}
 use Rattle.gixobj_editor_write.proofs.BegunFrames.{emits_below_of_ended, trees_of_ended}
 use Rattle.gixobj_editor_write.proofs.TakenTrees.{adds_append, adds_nil}
 

@@ -1,5 +1,6 @@
 -- Frames of a walk: what came of each directory that is begun, what remains of it, and how heavy that is.
-use Rattle.std.specs.Prelude.{◌≡◌, ◌≢◌, ◌+◌, ◌<◌, ℕ, List, [], ◌∷◌, ◌++◌, Option, Some, None, drop, get_or, length, true}
+use Rattle.std.specs.Prelude.{◌≡◌, ◌≢◌, ◌+◌, ◌<◌, ℕ, List, [], ◌∷◌, ◌++◌, Option, Some, None, drop, get_or, length}
+use Rattle.std.specs.Prelude.{true}
 use Rattle.std.specs.List.{AllByRecursion}
 use Rattle.std.specs.declared.alloc.Global.{Global}
 use Rattle.std.specs.declared.vec.Vec.{Vec}
@@ -15,7 +16,8 @@ use Rattle.gixobj_editor_files.specs.WrittenTrees.{SharesBase, so_far}
 use Rattle.gixobj_editor_open.specs.Children.{remaining_list}
 use Rattle.gixobj_editor_write.specs.TakenTrees.{child_leaf_trees}
 use Rattle.gixobj_editor_open.specs.LeafTrees.{inside_of, leaf_trees}
-use Rattle.gixobj_editor_open.specs.Nested.{AreOrdered, Level, Opened, at_side, base_side, bases_of, below, dirs_of, entries_side, part_at, parts}
+use Rattle.gixobj_editor_open.specs.Nested.{AreOrdered, Level, Opened, at_side, base_side, bases_of, below, dirs_of}
+use Rattle.gixobj_editor_open.specs.Nested.{entries_side, part_at, parts}
 use Rattle.gixobj_editor_write.specs.WriteErrors.{EmitsEntry, child_side}
 use Rattle.gixobj_editor_write.specs.declared.frames.Frame.{Frame}
 use Rattle.gixobj_editor_write.specs.declared.frames.HeldTree.{HeldTree}

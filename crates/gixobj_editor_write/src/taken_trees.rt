@@ -1,5 +1,6 @@
 //! Leaf trees that a write takes out of the open directories after its last call, and moves to its pairs.
-ghost use Rattle.std.specs.Prelude.{◌≡◌, ◌≢◌, ◌≤◌, ◌+◌, ◌++◌, ◌∷◌, IfNone, IfSome, List, [], length, reverse, vec_capacity, vec_len};
+ghost use Rattle.std.specs.Prelude.{◌≡◌, ◌≢◌, ◌≤◌, ◌+◌, ◌++◌, ◌∷◌, IfNone, IfSome, List, [], length, reverse};
+ghost use Rattle.std.specs.Prelude.{vec_capacity, vec_len};
 ghost use Rattle.gixobj_tree_entries.specs.Entries.{Pair};
 ghost use Rattle.gixobj_tree.specs.WellFormed.{EachLater};
 ghost use Rattle.gixobj_editor_open.specs.LeafTrees.{inside_of, leaf_trees, waiting_trees};

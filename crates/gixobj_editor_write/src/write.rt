@@ -1,5 +1,6 @@
 //! Writes of open directories: those in a directory are emitted before the directory itself.
-ghost use Rattle.std.specs.Prelude.{◌≡◌, ◌≢◌, ◌↔◌, ◌+◌, ◌++◌, ◌∷◌, [], ℕ, All, IsFalse, IsTrue, Some, IfErr, IfOk, List, None, Ok, OnErr, OnOk, ◌==◌, ◌<◌, length, vec_capacity, vec_len};
+ghost use Rattle.std.specs.Prelude.{◌≡◌, ◌≢◌, ◌↔◌, ◌+◌, ◌++◌, ◌∷◌, [], ℕ, All, IsFalse, IsTrue, Some, IfErr, IfOk};
+ghost use Rattle.std.specs.Prelude.{List, None, Ok, OnErr, OnOk, ◌==◌, ◌<◌, length, vec_capacity, vec_len};
 ghost use Rattle.std.specs.Fn.{CalledAt};
 ghost use Rattle.std.specs.List.{FoldsTo};
 ghost use Rattle.std.specs.Option.{option_copied};

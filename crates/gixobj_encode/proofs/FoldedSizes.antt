@@ -1,5 +1,6 @@
 -- The length of an encoded value: its bytes, one more for each line but the first, and a missing final newline.
-use Rattle.std.proofs.Common.{◌≡◌, ◌+◌, ◌-◌, ◌<◌, ◌≤◌, ℕ, Bool, true, false, cond, eqb, get_or, List, [], ◌∷◌, ◌++◌, length, length-append, arith, refl, take, sym, ap, ◌∙◌}
+use Rattle.std.proofs.Common.{◌≡◌, ◌+◌, ◌-◌, ◌<◌, ◌≤◌, ℕ, Bool, true, false, cond, eqb, get_or, List, [], ◌∷◌, ◌++◌, length, length-append, arith, refl, take}
+use Rattle.std.proofs.Common.{sym, ap, ◌∙◌}
 use Rattle.std.specs.Prelude.{◌==◌, not, if◌then◌else◌}
 use mir.Val.{bool_byte}
 use Rattle.std.specs.List.{flat_map}

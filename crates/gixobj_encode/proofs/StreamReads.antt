@@ -1,5 +1,6 @@
 -- Content that is read, and digested or dropped, piece by piece; used by the proofs of `stream_hash`.
-use Rattle.std.proofs.Common.{◌≡◌, ◌+◌, ◌-◌, ◌<◌, ◌≤◌, ℕ, List, [], ◌++◌, Option, Some, Result, Ok, Err, append_assoc, ap, arith, drop, length, length-append, refl, rules, subst, sym, take}
+use Rattle.std.proofs.Common.{◌≡◌, ◌+◌, ◌-◌, ◌<◌, ◌≤◌, ℕ, List, [], ◌++◌, Option, Some, Result, Ok, Err, append_assoc, ap, arith, drop, length, length-append}
+use Rattle.std.proofs.Common.{refl, rules, subst, sym, take}
 use Rattle.std.specs.Prelude.{◌↔◌, IfErr, IfOk, IsOk, OnOk}
 use Rattle.std.proofs.KnownBytes.{Consumes-kept, Consumes-nil, Consumes-trans}
 use Rattle.std.proofs.lemmas.List.{append-nil, drop_at, take-append-le, take_at}

@@ -1,5 +1,6 @@
 -- The entry that a lookup finds in the tree of the last commit is the file that the steps made; the proof of `entry_after_import` uses it.
-use Rattle.std.proofs.Common.{◌≡◌, ◌≢◌, ◌<◌, ◌↔◌, ◌⊎◌, ◌∙◌, ◌++◌, ◌∷◌, ℕ, suc, [], Err, List, None, Ok, Option, Result, Some, ap, arith, inl, inr, length, refl, subst, sym}
+use Rattle.std.proofs.Common.{◌≡◌, ◌≢◌, ◌<◌, ◌↔◌, ◌⊎◌, ◌∙◌, ◌++◌, ◌∷◌, ℕ, suc, [], Err, List, None, Ok, Option, Result, Some, ap, arith, inl, inr, length, refl}
+use Rattle.std.proofs.Common.{subst, sym}
 use Rattle.std.proofs.lemmas.Bool.{false≢true}
 use Rattle.std.proofs.lemmas.List.{length-append, take_all}
 use Rattle.std.specs.Prelude.{IfErr, IfOk, IsErrAnd, IsSome, IsSomeAnd, MatchOption, slice_get}

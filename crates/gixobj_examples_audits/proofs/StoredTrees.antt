@@ -1,5 +1,6 @@
 -- The tests of `is_canonical` decide whether a stored tree is canonical; its proof and those of its parts use it.
-use Rattle.std.proofs.Common.{◌≡◌, ◌≢◌, ◌↔◌, ◌∙◌, ◌-◌, ◌+◌, ◌<◌, inl, inr, ℕ, zero, suc, Bool, true, false, List, [], ◌∷◌, ◌++◌, Option, Some, Err, Ok, Result, refl, sym, ap, subst, arith, get_or, length, take}
+use Rattle.std.proofs.Common.{◌≡◌, ◌≢◌, ◌↔◌, ◌∙◌, ◌-◌, ◌+◌, ◌<◌, inl, inr, ℕ, zero, suc, Bool, true, false, List, [], ◌∷◌, ◌++◌, Option, Some, Err, Ok, Result}
+use Rattle.std.proofs.Common.{refl, sym, ap, subst, arith, get_or, length, take}
 use Rattle.std.specs.Prelude.{IfErr, IfOk, IsTrue, MatchOption, slice_get}
 use Rattle.std.specs.List.{AllByRecursion}
 use Rattle.std.proofs.lemmas.List.{take_more}

@@ -1,5 +1,6 @@
 -- Canonical trees, which their files determine, and tables that agree with two stores.
-use Rattle.std.specs.Prelude.{◌≡◌, ◌≢◌, ◌⊎◌, ◌-◌, ℕ, Bool, zero, suc, IsFalse, IsTrue, List, [], ◌∷◌, MatchOption, Some, slice_get, take}
+use Rattle.std.specs.Prelude.{◌≡◌, ◌≢◌, ◌⊎◌, ◌-◌, ℕ, Bool, zero, suc, IsFalse, IsTrue, List, [], ◌∷◌, MatchOption, Some}
+use Rattle.std.specs.Prelude.{slice_get, take}
 use Rattle.std.specs.List.{AllByRecursion}
 use Rattle.gix_object.specs.Entries.{EntryView}
 use Rattle.gix_object.specs.Files.{Path, Table, Trees, is_null}

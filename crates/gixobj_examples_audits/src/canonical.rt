@@ -4,7 +4,8 @@ ghost use Rattle.gix_object.specs.Hash.{id_kind};
 ghost use Rattle.gix_object.specs.Openings.{OfTrees};
 ghost use Rattle.gix_object.specs.Tables.{IsNeverLookedUp};
 ghost use Rattle.gixobj_listings.specs.Listings.{IsDirectory};
-ghost use Rattle.gixobj_examples_audits.specs.Canonical.{IsCanonicalTree, IsCanonicalEntry, IsCanonicalRoot, IsPlainDirectory, IsUnreadBelow, NamesCanonical};
+ghost use Rattle.gixobj_examples_audits.specs.Canonical.{IsCanonicalTree, IsCanonicalEntry, IsCanonicalRoot};
+ghost use Rattle.gixobj_examples_audits.specs.Canonical.{IsPlainDirectory, IsUnreadBelow, NamesCanonical};
 
 use gix_object::Find;
 use gix_object::hash::{Kind, ObjectId};

@@ -2,7 +2,8 @@
 ghost use Rattle.std.specs.Prelude.{◌≡◌, ◌⊎◌, IfErr, IfOk, map};
 ghost use Rattle.bstr.specs.Owned.{bstring_bytes};
 ghost use Rattle.gix_object.specs.Stores.{store_model};
-ghost use Rattle.gixobj_examples_audits.specs.Imports.{AreSameImports, IsEntryAfterImport, IsFoundIn, IsFoundInError, IsImportOf, IsLookupError, IsStoppedImport};
+ghost use Rattle.gixobj_examples_audits.specs.Imports.{AreSameImports, IsEntryAfterImport, IsFoundIn, IsFoundInError};
+ghost use Rattle.gixobj_examples_audits.specs.Imports.{IsImportOf, IsLookupError, IsStoppedImport};
 
 use crate::laws::{file_is_looked_up, path_leads_to_one_entry};
 use bstr::BString;

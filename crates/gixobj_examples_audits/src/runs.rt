@@ -11,7 +11,8 @@ ghost use Rattle.gix_object.specs.RunTables.{AgreesWithRun};
 ghost use Rattle.gix_object.specs.State.{EditorFiles, open_bases, open_dirs};
 ghost use Rattle.gix_object.specs.Stores.{store_model};
 ghost use Rattle.gixobj_listings.specs.Changes.{AreChangesInOrder};
-ghost use Rattle.gixobj_examples_audits.specs.Runs.{HasNoWrite, IsChangedByRun, IsReopenError, IsReopened, IsRunError, and_reply, and_write};
+ghost use Rattle.gixobj_examples_audits.specs.Runs.{HasNoWrite, IsChangedByRun, IsReopenError, IsReopened, IsRunError};
+ghost use Rattle.gixobj_examples_audits.specs.Runs.{and_reply, and_write};
 
 use gix_object::hash::ObjectId;
 use gix_object::laws::{

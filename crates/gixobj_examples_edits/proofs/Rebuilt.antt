@@ -1,5 +1,6 @@
 -- Two writes of a run without files at its start; the proofs of `wrote_the_same` and `id_written` use it.
-use Rattle.std.proofs.Common.{◌≡◌, ◌<◌, ◌≤◌, ◌↔◌, ℕ, zero, suc, Bool, IsTrue, List, [], ◌∷◌, None, Option, Some, ap, arith, get_or, inl, inr, length, refl, subst, sym, take, ◌∙◌}
+use Rattle.std.proofs.Common.{◌≡◌, ◌<◌, ◌≤◌, ◌↔◌, ℕ, zero, suc, Bool, IsTrue, List, [], ◌∷◌, None, Option, Some, ap, arith, get_or, inl, inr, length, refl}
+use Rattle.std.proofs.Common.{subst, sym, take, ◌∙◌}
 use Rattle.gix_object.specs.Commands.{accepted_steps, written_at, written_by}
 use Rattle.gix_object.specs.Files.{SameFiles, Table}
 use Rattle.gix_object.specs.History.{Step}

@@ -1,5 +1,6 @@
 -- The open directories that a write emits, and those that are unchanged; the proof of `upload_of` uses it.
-use Rattle.std.proofs.Common.{◌≡◌, ◌≢◌, ◌<◌, ◌+◌, ◌∙◌, ⊎_elim, inl, inr, ℕ, All, Contains, List, [], ◌∷◌, ◌++◌, None, Option, Some, ap, append_assoc, arith, length, length-append, map, refl, subst, sym}
+use Rattle.std.proofs.Common.{◌≡◌, ◌≢◌, ◌<◌, ◌+◌, ◌∙◌, ⊎_elim, inl, inr, ℕ, All, Contains, List, [], ◌∷◌, ◌++◌, None, Option, Some, ap, append_assoc, arith}
+use Rattle.std.proofs.Common.{length, length-append, map, refl, subst, sym}
 use Rattle.std.proofs.lemmas.List.{append-nil, get_or-map, length-map, map-append}
 use Rattle.std.proofs.lemmas.List.Elements.{All-append, All-cons, All-map, All-nil, All-weaker, Contains-append_left, Contains-append_right}
 use Rattle.std.specs.List.{AllByRecursion}
@@ -10,7 +11,8 @@ use Rattle.gix_object.specs.Files.{ContainsEntry, Path}
 use Rattle.gix_object.specs.Emission.{Emits, EmitsBelow, EmitsEntries, left_out_if_empty, end, of_entries, unopened, unchanged, written}
 use Rattle.gix_object.specs.Opening.{Dirs, HasAt, IsOpened, in_dir}
 use Rattle.gix_object.specs.hash.hash.object_id.ObjectId.{ObjectId}
-use Rattle.gixobj_examples_edits.proofs.DistinctPaths.{IsOf, IsPerhaps, Starts, once_under_append_append, entry_name_ne, starts_under_append_append, starts_cons, under}
+use Rattle.gixobj_examples_edits.proofs.DistinctPaths.{IsOf, IsPerhaps, Starts, once_under_append_append, entry_name_ne, starts_under_append_append}
+use Rattle.gixobj_examples_edits.proofs.DistinctPaths.{starts_cons, under}
 use Rattle.gixobj_examples_edits.specs.Uploads.{IsChanged, IsDivided, IsWrittenTree, IsSorted, IsUnchanged, AreDistinctPaths, Sent, loose_pair_of, path_of}
 
 -- ---- lists

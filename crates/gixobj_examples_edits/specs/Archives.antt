@@ -5,7 +5,8 @@ use Rattle.gix_object.specs.Commits.{step_commit, encode_step}
 use Rattle.gix_object.specs.Files.{NamedFiles, SameFiles, Table, Trees}
 use Rattle.gix_object.specs.Hash.{id_of}
 use Rattle.gix_object.specs.History.{FilesAfter}
-use Rattle.gix_object.specs.Imports.{AgreesWithImports, AreCommitsOf, HaveFiles, IsNewImporter, edits_of, pairs_of_imports}
+use Rattle.gix_object.specs.Imports.{AgreesWithImports, AreCommitsOf, HaveFiles, IsNewImporter, edits_of}
+use Rattle.gix_object.specs.Imports.{pairs_of_imports}
 use Rattle.gix_object.specs.Keeping.{KeepCommitErrors, KeepErrors}
 use Rattle.gix_object.specs.Openings.{OfTrees}
 use Rattle.gix_object.specs.PlainHistory.{NoFiles}

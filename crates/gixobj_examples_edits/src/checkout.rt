@@ -7,7 +7,8 @@ ghost use Rattle.gix_object.specs.WellFormed.{IsWellFormed};
 ghost use Rattle.gix_object.specs.Files.{Files, NamedFiles, SameFiles, Table, Trees};
 ghost use Rattle.gix_object.specs.History.{FilesAfter};
 ghost use Rattle.gix_object.specs.Tables.{AgreesWithPairs, AgreesWithStore};
-ghost use Rattle.gixobj_examples_edits.specs.Checkouts.{AreNotInserted, AreInserted, IsCheckedOut, IsFilled, IsNotFilled, IsCheckoutError, steps_of_checkout};
+ghost use Rattle.gixobj_examples_edits.specs.Checkouts.{AreNotInserted, AreInserted, IsCheckedOut, IsFilled};
+ghost use Rattle.gixobj_examples_edits.specs.Checkouts.{IsNotFilled, IsCheckoutError, steps_of_checkout};
 ghost use Rattle.gix_object.specs.State.{new_state};
 ghost use Rattle.gix_object.specs.Stores.{store_model};
 

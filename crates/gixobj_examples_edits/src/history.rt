@@ -3,7 +3,8 @@ ghost use Rattle.std.specs.Prelude.{◌≡◌, IfErr, IfOk, Some, map};
 ghost use Rattle.bstr.specs.Owned.{bstring_bytes};
 ghost use Rattle.gix_object.specs.Lookups.{IsAtPath};
 ghost use Rattle.gix_object.specs.Stores.{StoredObject};
-ghost use Rattle.gixobj_examples_edits.specs.Ancestors.{HasTree, IsAncestor, IsFirstParent, IsEntryOfCommitError, IsParentError, IsWalkError};
+ghost use Rattle.gixobj_examples_edits.specs.Ancestors.{HasTree, IsAncestor, IsFirstParent, IsEntryOfCommitError};
+ghost use Rattle.gixobj_examples_edits.specs.Ancestors.{IsParentError, IsWalkError};
 ghost use Rattle.gixobj_examples_edits.specs.HistoryLengths.{IsHistoryLen, IsLenOfLog, len_to_root};
 
 use bstr::BString;

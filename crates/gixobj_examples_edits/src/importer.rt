@@ -10,7 +10,8 @@ ghost use Rattle.gix_object.specs.Replies.{IsCallable};
 ghost use Rattle.gix_object.specs.RunTables.{AgreesWithObjects};
 ghost use Rattle.gix_object.specs.State.{EditorFiles, open_bases, open_dirs};
 ghost use Rattle.gix_object.specs.Tables.{AgreesWithPairs};
-ghost use Rattle.gixobj_examples_edits.specs.Imports.{Decides, FailsImport, HasImportCauseIn, HasWriteReply, edits_and_write, import_steps, is_done};
+ghost use Rattle.gixobj_examples_edits.specs.Imports.{Decides, FailsImport, HasImportCauseIn, HasWriteReply};
+ghost use Rattle.gixobj_examples_edits.specs.Imports.{edits_and_write, import_steps, is_done};
 ghost use Rattle.gix_object.specs.Stores.{store_model};
 
 use gix_object::hash::ObjectId;

@@ -3,7 +3,8 @@ ghost use Rattle.std.specs.Prelude.{◌≡◌, ◌↔◌, IfErr, IfOk, IsTrue, N
 ghost use Rattle.std.specs.Fn.{FnReturnsAt};
 ghost use Rattle.gix_object.specs.Commands.{written_at, written_by, written_by_edit};
 ghost use Rattle.gix_object.specs.Replies.{IsCallable};
-ghost use Rattle.gixobj_examples_edits.specs.Rebuilds.{IsCompared, IsComparisonError, IsRebuildError, IsRebuilt, NamesWritten, id_named};
+ghost use Rattle.gixobj_examples_edits.specs.Rebuilds.{IsCompared, IsComparisonError, IsRebuildError, IsRebuilt};
+ghost use Rattle.gixobj_examples_edits.specs.Rebuilds.{NamesWritten, id_named};
 ghost use Rattle.gix_object.specs.Stores.{store_model};
 
 use gix_object::hash::{Kind, ObjectId};

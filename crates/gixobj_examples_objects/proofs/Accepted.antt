@@ -1,5 +1,6 @@
 -- An accepted outcome implies the calls of a verification and their answers; the proof of `verified` uses it.
-use Rattle.std.proofs.Common.{◌≡◌, ◌⊎◌, ℕ, Bool, true, false, List, [], ◌∷◌, ◌++◌, ◌&&◌, ◌∙◌, Option, Some, None, Result, Ok, Err, IfOk, ap, cond, inl, inr, nat_eq, refl, subst, sym}
+use Rattle.std.proofs.Common.{◌≡◌, ◌⊎◌, ℕ, Bool, true, false, List, [], ◌∷◌, ◌++◌, ◌&&◌, ◌∙◌, Option, Some, None, Result, Ok, Err, IfOk, ap, cond, inl, inr}
+use Rattle.std.proofs.Common.{nat_eq, refl, subst, sym}
 use Rattle.std.specs.List.{filter_map, starts_with}
 use Rattle.std.specs.Prelude.{codes}
 use Rattle.gix_object.specs.GpgReports.{gpg_report, status_of, status_lines, verdict}
@@ -8,7 +9,8 @@ use Rattle.gix_object.specs.Plans.{CarriesOut, done}
 use Rattle.gix_object.specs.ProgramCalls.{Answer, CallView, OutputView, failed, no_memory, ran}
 use Rattle.gix_object.specs.SshReports.{ssh_report, ssh_status}
 use Rattle.gix_object.specs.Verifiers.{VerifyOptionsView, ProgramView, SshView, by_open_pgp, by_ssh, by_x509}
-use Rattle.gix_object.specs.Verifying.{IsOutcomeOf, VerifyOutcome, accepts, gpg_verify_plan, human, mismatch, not_run, principals_in, reported, ssh_verified, ssh_verify_plan, tries, unsupported, verify_plan}
+use Rattle.gix_object.specs.Verifying.{IsOutcomeOf, VerifyOutcome, accepts, gpg_verify_plan, human, mismatch, not_run, principals_in, reported, ssh_verified}
+use Rattle.gix_object.specs.Verifying.{ssh_verify_plan, tries, unsupported, verify_plan}
 use Rattle.gix_object.specs.VerifyingCalls.{open_pgp_call, principal_call, x509_call}
 use Rattle.gix_object.specs.report.report.Outcome.{Outcome}
 use Rattle.gix_object.specs.report.report.Status.{Status}

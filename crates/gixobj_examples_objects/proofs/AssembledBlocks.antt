@@ -1,5 +1,6 @@
 -- The lines of an assembled message are its trailer block; the laws of `laws` use it.
-use Rattle.std.proofs.Common.{◌≡◌, ◌≢◌, ◌<◌, ◌↔◌, ◌∙◌, ◌+◌, ◌||◌, ◌++◌, ◌∷◌, ℕ, [], Bool, List, Option, Some, ap, append-nil, arith, cond, false, inl, inr, length, map, refl, slice_index, subst, suc, sym, true, zero, None}
+use Rattle.std.proofs.Common.{◌≡◌, ◌≢◌, ◌<◌, ◌↔◌, ◌∙◌, ◌+◌, ◌||◌, ◌++◌, ◌∷◌, ℕ, [], Bool, List, Option, Some, ap, append-nil, arith, cond, false, inl, inr}
+use Rattle.std.proofs.Common.{length, map, refl, slice_index, subst, suc, sym, true, zero, None}
 use Rattle.std.proofs.lemmas.Bool.Decides.{nat_tests}
 use Rattle.std.proofs.lemmas.List.Elements.{All-cons, All-head, All-nil, All-tail}
 use Rattle.std.proofs.lemmas.List.Sums.{sum_by-cons, take_while-cons}
@@ -8,7 +9,8 @@ use Rattle.std.specs.List.{AllPass, list_all, take_while}
 use Rattle.std.specs.Prelude.{◌&&◌, ◌-◌, All, IsFalse, IsTrue, is_some, not}
 use Rattle.bstr.specs.Text.{lines_of}
 use Rattle.bstr.proofs.lemmas.LineLemmas.{lines-append, lines-nil, lines-one}
-use Rattle.gix_object.specs.BodyLines.{DecodesToTrailer, TrailerParts, begins_indented, is_blank, is_continuation_line, is_gap_byte, is_git_generated, is_indented, is_token_byte, is_trailer_line, parts_of_line, trailer_parts, trimmed_line, without_last_byte}
+use Rattle.gix_object.specs.BodyLines.{DecodesToTrailer, TrailerParts, begins_indented, is_blank, is_continuation_line, is_gap_byte, is_git_generated}
+use Rattle.gix_object.specs.BodyLines.{is_indented, is_token_byte, is_trailer_line, parts_of_line, trailer_parts, trimmed_line, without_last_byte}
 use Rattle.gix_object.specs.ByteStrings.{IsByteFree}
 use Rattle.gix_object.specs.MessageTrailers.{HasTrailers}
 use Rattle.gix_object.specs.TrailerBlocks.{HasBlock, count_others, counts_as_trailer, trailer_count}

@@ -5,7 +5,8 @@ use Rattle.gix_object.specs.BodyLines.{without_last_byte}
 use Rattle.gix_object.specs.ByteStrings.{IsByteFree}
 use Rattle.gix_object.specs.Titles.{IsBreak, SplitsTitle, after_return, alone, IsSplitAtBreaks}
 use Rattle.gix_object.specs.Trailers.{TrailerView}
-use Rattle.gixobj_examples_objects.specs.Assembled.{IsTitleLine, assembled_message, described_body, described_message, trailer_body, trailer_lines, trailer_section}
+use Rattle.gixobj_examples_objects.specs.Assembled.{IsTitleLine, assembled_message, described_body, described_message, trailer_body, trailer_lines}
+use Rattle.gixobj_examples_objects.specs.Assembled.{trailer_section}
 
 cons_injective : (x y : ℕ) (xs ys : List ℕ) → x ∷ xs ≡ y ∷ ys → xs ≡ ys
 cons_injective x y xs ys same = cc same

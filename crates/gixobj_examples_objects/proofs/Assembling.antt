@@ -1,6 +1,7 @@
 -- A message that is assembled part by part is its title, body and trailer lines, one after the other; the proofs of
 -- `message_of` and `message_with_description` use it.
-use Rattle.std.proofs.Common.{◌≡◌, ◌≢◌, ◌∙◌, ◌+◌, ◌<◌, ◌≤◌, ◌++◌, ◌∷◌, ℕ, [], List, Some, ap, append-nil, append_assoc, arith, drop, drop-cons, get_or, length, subst, suc, sym, take}
+use Rattle.std.proofs.Common.{◌≡◌, ◌≢◌, ◌∙◌, ◌+◌, ◌<◌, ◌≤◌, ◌++◌, ◌∷◌, ℕ, [], List, Some, ap, append-nil, append_assoc, arith, drop, drop-cons, get_or, length}
+use Rattle.std.proofs.Common.{subst, suc, sym, take}
 use Rattle.std.proofs.lemmas.List.{length-take-le, take-append-drop, take_all, take_more}
 use Rattle.std.proofs.lemmas.List.Elements.{All-append, All-cons, All-nil}
 use Rattle.std.specs.Prelude.{All}
@@ -9,7 +10,8 @@ use Rattle.gix_object.specs.MessageTrailers.{HasTrailers}
 use Rattle.gix_object.specs.Titles.{SplitsTitle}
 use Rattle.gix_object.specs.TrailerBlocks.{IsTrailerBlockStart}
 use Rattle.gix_object.specs.Trailers.{TrailerView}
-use Rattle.gixobj_examples_objects.specs.Assembled.{IsFirstOther, IsLineTrailer, IsMessageOf, IsDescribedMessageOf, IsTitleLine, assembled_message, described_body, described_message, trailer_body, trailer_line, trailer_lines, trailer_section}
+use Rattle.gixobj_examples_objects.specs.Assembled.{IsFirstOther, IsLineTrailer, IsMessageOf, IsDescribedMessageOf, IsTitleLine, assembled_message}
+use Rattle.gixobj_examples_objects.specs.Assembled.{described_body, described_message, trailer_body, trailer_line, trailer_lines, trailer_section}
 
 pub lines_snoc : (trailers : List TrailerView) (trailer : TrailerView)
     → trailer_lines (trailers ++ trailer ∷ []) ≡ trailer_lines trailers ++ trailer_line trailer

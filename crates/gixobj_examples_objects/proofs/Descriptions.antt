@@ -1,5 +1,6 @@
 -- The trailers after a description are the trailer block of their message; the law `described_message_has_parts` uses it.
-use Rattle.std.proofs.Common.{◌≡◌, ◌≢◌, ◌⊎◌, ◌∙◌, ◌+◌, ◌==◌, ◌++◌, ◌∷◌, ℕ, [], Bool, List, Some, ap, append-nil, append_assoc, arith, cond, drop, false, inl, inr, length, length-append, map, refl, subst, sym, true}
+use Rattle.std.proofs.Common.{◌≡◌, ◌≢◌, ◌⊎◌, ◌∙◌, ◌+◌, ◌==◌, ◌++◌, ◌∷◌, ℕ, [], Bool, List, Some, ap, append-nil, append_assoc, arith, cond, drop, false, inl}
+use Rattle.std.proofs.Common.{inr, length, length-append, map, refl, subst, sym, true}
 use Rattle.std.proofs.lemmas.Bool.{cases_eq}
 use Rattle.std.proofs.lemmas.Bool.Decides.{nat_tests}
 use Rattle.std.proofs.lemmas.List.Elements.{All-cons, All-nil}
@@ -14,7 +15,8 @@ use Rattle.gix_object.specs.ByteStrings.{IsByteFree}
 use Rattle.gix_object.specs.MessageTrailers.{HasTrailers}
 use Rattle.gix_object.specs.TrailerBlocks.{HasBlock, IsTrailerBlockStart}
 use Rattle.gix_object.specs.Trailers.{TrailerView, trailers_of, trailers_of_bytes, with_trailer}
-use Rattle.gixobj_examples_objects.proofs.AssembledBlocks.{TrailerLineDecodes, ends_line, lines_of_line_append, lines_of_trailers, map_not_nil, no_others, none_blank, some_trailers, trailers_of_lines, without_last_append}
+use Rattle.gixobj_examples_objects.proofs.AssembledBlocks.{TrailerLineDecodes, ends_line, lines_of_line_append, lines_of_trailers, map_not_nil, no_others}
+use Rattle.gixobj_examples_objects.proofs.AssembledBlocks.{none_blank, some_trailers, trailers_of_lines, without_last_append}
 use Rattle.gixobj_examples_objects.proofs.AssembledTitles.{title_of_described_message}
 use Rattle.gixobj_examples_objects.proofs.CarriageReturns.{without_last_same}
 use Rattle.gixobj_examples_objects.specs.Assembled.{IsLineTrailer, IsTitleLine, described_body, described_message, trailer_line, trailer_lines, trailer_section}

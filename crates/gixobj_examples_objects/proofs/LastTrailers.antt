@@ -1,5 +1,6 @@
 -- The last trailer of a message, and the line for which an iterator over its trailers allocates.
-use Rattle.std.proofs.Common.{◌≡◌, ◌++◌, ◌∙◌, ◌∷◌, Bool, Err, List, None, Ok, OnErr, Option, Result, Some, [], ap, append_assoc, cond, false, map, option_map, refl, sym, true, ℕ}
+use Rattle.std.proofs.Common.{◌≡◌, ◌++◌, ◌∙◌, ◌∷◌, Bool, Err, List, None, Ok, OnErr, Option, Result, Some, [], ap, append_assoc, cond, false, map, option_map}
+use Rattle.std.proofs.Common.{refl, sym, true, ℕ}
 use Rattle.std.proofs.lemmas.List.Sums.{take_while-cons}
 use Rattle.std.specs.Iterator.{Yields}
 use Rattle.std.specs.List.{last_or, take_while}

@@ -1,12 +1,14 @@
 -- The encoding of a signed commit; and what an accepted signature implies: the bytes that it is of, and the answers of
 -- programs about it. The truth of these answers is no part of this.
-use Rattle.std.specs.Prelude.{◌≡◌, ◌⊎◌, ⊤, ℕ, true, false, List, [], ◌∷◌, ◌++◌, Option, Some, None, Result, Ok, Err, if◌then◌else◌, codes, nat_eq}
+use Rattle.std.specs.Prelude.{◌≡◌, ◌⊎◌, ⊤, ℕ, true, false, List, [], ◌∷◌, ◌++◌, Option, Some, None, Result, Ok, Err}
+use Rattle.std.specs.Prelude.{if◌then◌else◌, codes, nat_eq}
 use Rattle.std.specs.List.{filter_map, starts_with}
 use Rattle.std.specs.Cow.{cow_slice_items}
 use Rattle.std.specs.declared.alloc.Global.{Global}
 use Rattle.std.specs.declared.borrow.CowSlice.{CowSlice}
 use Rattle.gix_object.specs.Commit.{CommitLines, DecodesToCommit}
-use Rattle.gix_object.specs.CommitSigning.{IsSignedCommit, IsCommitSigningError, IsCommitEncodingError, payload_of_commit, with_signature}
+use Rattle.gix_object.specs.CommitSigning.{IsSignedCommit, IsCommitSigningError, IsCommitEncodingError}
+use Rattle.gix_object.specs.CommitSigning.{payload_of_commit, with_signature}
 use Rattle.gix_object.specs.CommitViews.{owned_commit_lines}
 use Rattle.gix_object.specs.CommitWriting.{encode_commit}
 use Rattle.gix_object.specs.CommitSignatures as commits

@@ -3,7 +3,9 @@ ghost use Rattle.std.specs.Prelude.{◌≡◌, ◌↔◌, ◌++◌, ◌∷◌, [
 ghost use Rattle.gix_object.specs.Bytes.{carriage_return, newline};
 ghost use Rattle.gix_object.specs.BodyLines as lines;
 ghost use Rattle.gix_object.specs.BodyLines.{without_last_byte};
-ghost use Rattle.gixobj_examples_objects.specs.Assembled.{IsDescribedMessageOf, IsLineTrailer, IsMessageError, IsMessageOf, IsTitleError, IsTitleLine, IsToken, IsTrailerError, trailer_line, trailer_lines, trailer_section};
+ghost use Rattle.gixobj_examples_objects.specs.Assembled.{IsDescribedMessageOf, IsLineTrailer, IsMessageError};
+ghost use Rattle.gixobj_examples_objects.specs.Assembled.{IsMessageOf, IsTitleError, IsTitleLine, IsToken};
+ghost use Rattle.gixobj_examples_objects.specs.Assembled.{IsTrailerError, trailer_line, trailer_lines, trailer_section};
 
 pub mod laws;
 

@@ -9,7 +9,10 @@ ghost use Rattle.gix_object.specs.Outcomes.{outcome_view};
 ghost use Rattle.gix_object.specs.SignedBytes.{signed_bytes};
 ghost use Rattle.gix_object.specs.Signing as signing;
 ghost use Rattle.gix_object.specs.Verifiers.{verify_options_view};
-ghost use Rattle.gixobj_examples_objects.specs.AcceptedSignatures.{IsOutcomeOfVerifying, FindsSignature, IsAccepted, IsAudit, IsSignedEncoding, IsAuditError, IsObjectSignature, IsSignatureError, IsSignedEncodingError, SignsObject, Vouches};
+ghost use Rattle.gixobj_examples_objects.specs.AcceptedSignatures.{IsOutcomeOfVerifying, FindsSignature, IsAccepted};
+ghost use Rattle.gixobj_examples_objects.specs.AcceptedSignatures.{IsAudit, IsSignedEncoding, IsAuditError};
+ghost use Rattle.gixobj_examples_objects.specs.AcceptedSignatures.{IsObjectSignature, IsSignatureError};
+ghost use Rattle.gixobj_examples_objects.specs.AcceptedSignatures.{IsSignedEncodingError, SignsObject, Vouches};
 
 use bstr::BStr;
 use gix_object::laws::{received_commits_are_signed, received_tags_are_signed};

@@ -4,13 +4,15 @@ use Rattle.std.specs.Prelude.{codes}
 use Rattle.gixobj_hash.specs.declared.hash.kind.Kind.{Kind}
 use Rattle.gixobj_parse.proofs.HeaderFields.{field_unique}
 use Rattle.gixobj_fsck.specs.Actors.{ActorPart, IsAfterLine}
-use Rattle.gixobj_fsck.specs.Commits.{CommitPart, MoreAuthors, NoMoreAuthors, ParentLines, PeoplePart, bad_author, bad_parent, last_author, next_author, next_parent, no_parent}
+use Rattle.gixobj_fsck.specs.Commits.{CommitPart, MoreAuthors, NoMoreAuthors, ParentLines, PeoplePart, bad_author, bad_parent, last_author, next_author}
+use Rattle.gixobj_fsck.specs.Commits.{next_parent, no_parent}
 use Rattle.gixobj_fsck.specs.Headers.{HeaderPart}
 use Rattle.gixobj_fsck.specs.Lines.{ActorLine, IdLine}
 use Rattle.gixobj_fsck.specs.Steps.{IsDeterministic, Then}
 use Rattle.gixobj_fsck_messages.specs.declared.message.Message.{Message}
 use Rattle.gixobj_fsck_messages.specs.declared.message.Message.TheVariants as message
-use Rattle.gixobj_fsck.proofs.Outcomes.{actor_deterministic, actor_line_deterministic, after_line_unique, after_name_unique, header_deterministic, id_line_deterministic, name_of_id_field}
+use Rattle.gixobj_fsck.proofs.Outcomes.{actor_deterministic, actor_line_deterministic, after_line_unique, after_name_unique, header_deterministic}
+use Rattle.gixobj_fsck.proofs.Outcomes.{id_line_deterministic, name_of_id_field}
 use Rattle.gixobj_fsck.proofs.Parts.{then_deterministic}
 
 pub parents_deterministic : (kind : Kind) → IsDeterministic (ParentLines kind)

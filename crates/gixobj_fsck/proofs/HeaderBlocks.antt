@@ -1,5 +1,6 @@
 -- Blocks of a header without zero bytes and empty lines, by numbers with a bit for each byte.
-use Rattle.std.proofs.Common.{◌≡◌, ◌<◌, ◌≤◌, ◌+◌, ◌-◌, ℕ, IsTrue, rules, Bool, true, false, List, ap, arith, bit_and, cond, get_or, length, map, min, nat_eq, sym, ◌∙◌}
+use Rattle.std.proofs.Common.{◌≡◌, ◌<◌, ◌≤◌, ◌+◌, ◌-◌, ℕ, IsTrue, rules, Bool, true, false, List, ap, arith, bit_and, cond, get_or, length, map, min, nat_eq}
+use Rattle.std.proofs.Common.{sym, ◌∙◌}
 use Rattle.std.proofs.lemmas.List.{get_or-map}
 use Rattle.std.proofs.lemmas.Nat.Bits.{bit_at_and, bit_at-zero}
 use Rattle.std.proofs.lemmas.Simd.{bit_mask_l, get_or-chunk, length-chunk}

@@ -10,7 +10,8 @@ use Rattle.gixobj_hash.proofs.Splits.{no_split_of_byte_free, splits_at_unique}
 use Rattle.gixobj_parse.specs.HeaderReading.{BeginsWithIdField}
 use Rattle.gixobj_parse.proofs.HeaderFields.{field_unique, first_bytes_eq}
 use Rattle.gixobj_fsck.specs.Actors.{ActorPart, EmailPart, EndsInSpace, IsAfterLine, NamePart}
-use Rattle.gixobj_fsck.specs.Dates.{BeginsWithByte, BeginsWithNoNumber, BeginsWithNumber, DateNumber, IsZeroPadded, DateStart, ZonePart, is_negative, number_of, without_sign}
+use Rattle.gixobj_fsck.specs.Dates.{BeginsWithByte, BeginsWithNoNumber, BeginsWithNumber, DateNumber, IsZeroPadded, DateStart, ZonePart, is_negative, number_of}
+use Rattle.gixobj_fsck.specs.Dates.{without_sign}
 use Rattle.gixobj_fsck.specs.Headers.{HeaderPart}
 use Rattle.gixobj_fsck.specs.Lines.{ActorLine, BeginsWithName, IdLine}
 use Rattle.gixobj_fsck.specs.Spans.{EndsSpan, IsSpan}

@@ -1,6 +1,7 @@
 -- The date and the time zone of an actor (git-fsck, "FSCK MESSAGES"). The input is all that follows the email, up to
 -- the end of the object: a date may begin in a later line.
-use Rattle.std.specs.Prelude.{◌≡◌, ◌≢◌, ◌⊎◌, ◌∷◌, ◌-◌, ◌^◌, ◌%◌, ◌<◌, ◌≤◌, ◌==◌, ◌||◌, [], ℕ, Bool, IsTrue, List, Result, Ok, Err, false, if◌then◌else◌, nat_lt}
+use Rattle.std.specs.Prelude.{◌≡◌, ◌≢◌, ◌⊎◌, ◌∷◌, ◌-◌, ◌^◌, ◌%◌, ◌<◌, ◌≤◌, ◌==◌, ◌||◌, [], ℕ, Bool, IsTrue, List}
+use Rattle.std.specs.Prelude.{Result, Ok, Err, false, if◌then◌else◌, nat_lt}
 use Rattle.std.specs.Str.Parse.{digits_value}
 use Rattle.gixobj_hash.specs.Bytes.{digit, minus, newline, plus, space}
 use Rattle.gixobj_fsck.specs.Spans.{IsSpan, is_of_class}

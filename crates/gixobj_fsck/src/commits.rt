@@ -1,6 +1,7 @@
 //! The messages about commits.
 ghost use Rattle.std.specs.Prelude.{◌↔◌, Contains, Err, IsTrue, MatchBool, MatchResult, Ok};
-ghost use Rattle.gixobj_fsck.specs.Commits.{CommitPart, HasCommitMessage, IsAcceptedCommit, IsCleanCommit, IsCommitMessage, MoreAuthors, NoMoreAuthors, ParentLines, PeoplePart};
+ghost use Rattle.gixobj_fsck.specs.Commits.{CommitPart, HasCommitMessage, IsAcceptedCommit, IsCleanCommit};
+ghost use Rattle.gixobj_fsck.specs.Commits.{IsCommitMessage, MoreAuthors, NoMoreAuthors, ParentLines, PeoplePart};
 ghost use Rattle.gixobj_hash.specs.ByteStrings.{IsByteFree};
 ghost use Rattle.gixobj_fsck_messages.specs.Sets.{HasMessage};
 ghost use Rattle.gixobj_fsck_messages.specs.declared.message.Message.{Message};

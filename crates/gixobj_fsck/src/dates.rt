@@ -1,7 +1,8 @@
 //! The dates and time zones of actors.
 ghost use Rattle.std.specs.Prelude.{◌≡◌, ◌^◌, ◌<◌, ◌↔◌, Err, IsTrue, MatchOption, MatchResult, Ok, ℕ};
 ghost use Rattle.std.specs.Option.{SomeIff};
-ghost use Rattle.gixobj_fsck.specs.Dates.{BeginsWithNoNumber, BeginsWithNumber, BeginsWithZone, DateNumber, DateStart, ZonePart, is_negative, number_of, without_sign};
+ghost use Rattle.gixobj_fsck.specs.Dates.{BeginsWithNoNumber, BeginsWithNumber, BeginsWithZone, DateNumber, DateStart};
+ghost use Rattle.gixobj_fsck.specs.Dates.{ZonePart, is_negative, number_of, without_sign};
 ghost use Rattle.gixobj_fsck.specs.Spans.{is_of_class};
 ghost use Rattle.gixobj_fsck.specs.declared.spans.Class.TheVariants as class;
 

@@ -15,10 +15,13 @@ use Rattle.gixobj_fsck_messages.specs.declared.message.Message.{Message}
 use Rattle.gixobj_fsck_messages.specs.declared.message.Message.TheVariants as message
 use Rattle.gixobj_fsck_messages.specs.declared.severity.Severity.{Severity}
 use Rattle.gixobj_fsck_findings.specs.Checks.{AndThen, EndsAtFault, HaveDocumentedSeverities, finding_of, listed, offset_of}
-use Rattle.gixobj_fsck_findings.specs.CommitChecks.{AuthorCheck, AuthorLines, AuthorsCheck, CommitCheck, CommitterCheck, FollowsParents, HaveCommitMessages, MoreAuthorsCheck, ParentsCheck, PeopleCheck, ZeroCheck, last_author, next_author, next_parent, no_author, no_parent}
+use Rattle.gixobj_fsck_findings.specs.CommitChecks.{AuthorCheck, AuthorLines, AuthorsCheck, CommitCheck, CommitterCheck, FollowsParents, HaveCommitMessages}
+use Rattle.gixobj_fsck_findings.specs.CommitChecks.{MoreAuthorsCheck, ParentsCheck, PeopleCheck, ZeroCheck, last_author, next_author, next_parent, no_author}
+use Rattle.gixobj_fsck_findings.specs.CommitChecks.{no_parent}
 use Rattle.gixobj_fsck_findings.specs.LineChecks.{HeaderCheck, IsFirstByteAt}
 use Rattle.gixobj_fsck_findings.proofs.Lists.{no_message_list, one_message_list}
-use Rattle.gixobj_fsck_findings.proofs.Serious.{Follows, FollowsTo, IsSerious, actor_line_follows, and_then_follows, ends_follows, header_follows, last_follows, more_follows, serious_error, serious_list, serious_rest}
+use Rattle.gixobj_fsck_findings.proofs.Serious.{Follows, FollowsTo, IsSerious, actor_line_follows, and_then_follows, ends_follows, header_follows, last_follows}
+use Rattle.gixobj_fsck_findings.proofs.Serious.{more_follows, serious_error, serious_list, serious_rest}
 
 -- ---- ids and parents
 

@@ -19,7 +19,8 @@ use Rattle.gixobj_fsck_findings.specs.Checks.{AndThen, EndsAtFault, HaveDocument
 use Rattle.gixobj_fsck_findings.specs.LineChecks.{HeaderCheck}
 use Rattle.gixobj_fsck_findings.specs.TagChecks.{ExtraCheck, HaveTagMessages, IsFieldFault, NameCheck, NamesCheck, TagCheck, TaggerCheck, TypeCheck}
 use Rattle.gixobj_fsck_findings.proofs.Lists.{no_message_list, one_message_list, split_message_list}
-use Rattle.gixobj_fsck_findings.proofs.Serious.{Follows, FollowsTo, IsSerious, ends_follows, error_actor, extra_list, header_follows, info_list, info_rest, last_follows, more_follows, serious_error, serious_list, serious_rest}
+use Rattle.gixobj_fsck_findings.proofs.Serious.{Follows, FollowsTo, IsSerious, ends_follows, error_actor, extra_list, header_follows, info_list, info_rest}
+use Rattle.gixobj_fsck_findings.proofs.Serious.{last_follows, more_follows, serious_error, serious_list, serious_rest}
 
 -- ---- up to the type
 

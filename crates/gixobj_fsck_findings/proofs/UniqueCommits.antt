@@ -14,9 +14,12 @@ use Rattle.gixobj_fsck_messages.specs.declared.message.Message.{Message}
 use Rattle.gixobj_fsck_messages.specs.declared.message.Message.TheVariants as message
 use Rattle.gixobj_fsck_messages.specs.declared.severity.Severity.{Severity}
 use Rattle.gixobj_fsck_findings.specs.Checks.{AndThen, EndsAtFault, IsDeterministicCheck, listed, offset_of}
-use Rattle.gixobj_fsck_findings.specs.CommitChecks.{AreCommitFindings, AuthorCheck, AuthorLines, AuthorsCheck, CommitCheck, CommitterCheck, FollowsParents, MoreAuthorsCheck, ParentsCheck, PeopleCheck, ZeroCheck, last_author, next_author, next_parent, no_author, no_parent}
+use Rattle.gixobj_fsck_findings.specs.CommitChecks.{AreCommitFindings, AuthorCheck, AuthorLines, AuthorsCheck, CommitCheck, CommitterCheck, FollowsParents}
+use Rattle.gixobj_fsck_findings.specs.CommitChecks.{MoreAuthorsCheck, ParentsCheck, PeopleCheck, ZeroCheck, last_author, next_author, next_parent, no_author}
+use Rattle.gixobj_fsck_findings.specs.CommitChecks.{no_parent}
 use Rattle.gixobj_fsck_findings.specs.LineChecks.{HeaderCheck, IsFirstByteAt}
-use Rattle.gixobj_fsck_findings.proofs.Unique.{actor_line_check_deterministic, and_then_deterministic, ends_deterministic, first_byte_unique, header_check_deterministic, same_rest_after}
+use Rattle.gixobj_fsck_findings.proofs.Unique.{actor_line_check_deterministic, and_then_deterministic, ends_deterministic, first_byte_unique}
+use Rattle.gixobj_fsck_findings.proofs.Unique.{header_check_deterministic, same_rest_after}
 
 -- a line that doesn't begin with a name has no id of this name
 no_id_of_other : (kind : Kind) (line : List ℕ) → BeginsWithOtherName (codes "parent") line → BeginsWithNoIdField (codes "parent") kind line

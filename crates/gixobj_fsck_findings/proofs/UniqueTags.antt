@@ -15,8 +15,10 @@ use Rattle.gixobj_fsck_messages.specs.declared.severity.Severity.{Severity}
 use Rattle.gixobj_tag.specs.NameRule.{HasNoFault}
 use Rattle.gixobj_fsck_findings.specs.Checks.{AndThen, EndsAtFault, IsDeterministicCheck, listed, offset_of}
 use Rattle.gixobj_fsck_findings.specs.LineChecks.{HeaderCheck}
-use Rattle.gixobj_fsck_findings.specs.TagChecks.{AreTagFindings, ExtraCheck, IsFieldFault, NameCheck, NamesCheck, NoFieldCheck, TagCheck, TaggerCheck, TypeCheck}
-use Rattle.gixobj_fsck_findings.proofs.Unique.{and_then_deterministic, ends_deterministic, header_check_deterministic, name_of_field, same_list, same_rest_after}
+use Rattle.gixobj_fsck_findings.specs.TagChecks.{AreTagFindings, ExtraCheck, IsFieldFault, NameCheck, NamesCheck, NoFieldCheck, TagCheck, TaggerCheck}
+use Rattle.gixobj_fsck_findings.specs.TagChecks.{TypeCheck}
+use Rattle.gixobj_fsck_findings.proofs.Unique.{and_then_deterministic, ends_deterministic, header_check_deterministic, name_of_field, same_list}
+use Rattle.gixobj_fsck_findings.proofs.Unique.{same_rest_after}
 
 -- ---- lines without a field
 

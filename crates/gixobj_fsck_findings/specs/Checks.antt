@@ -1,7 +1,8 @@
 -- The checks of the parts of an object, one after the other, by the severity of each message (git-fsck, "FSCK
 -- MESSAGES"; git-config, `fsck.<msg-id>`). A check goes from the input of a part and the findings before it to the
 -- findings after it, and to the rest of the input; without a rest the check of the object ends.
-use Rattle.std.specs.Prelude.{◌≡◌, ◌-◌, ◌⊎◌, ◌∷◌, ◌++◌, [], ℕ, Bool, List, Option, Some, None, Result, Ok, Err, if◌then◌else◌, length, map}
+use Rattle.std.specs.Prelude.{◌≡◌, ◌-◌, ◌⊎◌, ◌∷◌, ◌++◌, [], ℕ, Bool, List, Option, Some, None, Result, Ok, Err}
+use Rattle.std.specs.Prelude.{if◌then◌else◌, length, map}
 use Rattle.std.specs.Borrow.{Bor}
 use Rattle.gixobj_fsck_messages.specs.Severities.{counts_as_error, is_reported, severity_of}
 use Rattle.gixobj_fsck_messages.specs.declared.finding.Finding.{Finding}

@@ -12,7 +12,8 @@ use Rattle.gixobj_fsck_messages.specs.declared.finding.Finding.{Finding}
 use Rattle.gixobj_fsck_messages.specs.declared.message.Message.{Message}
 use Rattle.gixobj_fsck_messages.specs.declared.message.Message.TheVariants as message
 use Rattle.gixobj_fsck_messages.specs.declared.severity.Severity.{Severity}
-use Rattle.gixobj_fsck_findings.specs.Checks.{AndThen, Check, EndsAtFault, HaveDocumentedSeverities, listed, messages_of, offset_of, rest_after}
+use Rattle.gixobj_fsck_findings.specs.Checks.{AndThen, Check, EndsAtFault, HaveDocumentedSeverities, listed}
+use Rattle.gixobj_fsck_findings.specs.Checks.{messages_of, offset_of, rest_after}
 use Rattle.gixobj_fsck_findings.specs.LineChecks.{ActorLineCheck, HeaderCheck, IsFirstByteAt}
 
 -- lines of parents, each with an id in hex, come before the rest

@@ -16,7 +16,8 @@ use Rattle.gixobj_fsck_messages.specs.declared.message.Message.TheVariants as me
 use Rattle.gixobj_fsck_messages.specs.declared.severity.Severity.{Severity}
 use Rattle.gixobj_fsck_tags.specs.Tags.{IsTagMessage}
 use Rattle.gixobj_tag.specs.NameRule.{HasNoFault}
-use Rattle.gixobj_fsck_findings.specs.Checks.{AndThen, Check, EndsAtFault, HaveDocumentedSeverities, listed, messages_of, offset_of, rest_after}
+use Rattle.gixobj_fsck_findings.specs.Checks.{AndThen, Check, EndsAtFault, HaveDocumentedSeverities, listed}
+use Rattle.gixobj_fsck_findings.specs.Checks.{messages_of, offset_of, rest_after}
 use Rattle.gixobj_fsck_findings.specs.LineChecks.{HeaderCheck}
 
 -- the fault of a line that isn't the field of this name: another line, or one without a newline

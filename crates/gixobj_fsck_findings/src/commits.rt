@@ -2,7 +2,9 @@
 ghost use Rattle.std.specs.Prelude.{◌≡◌, IfOk, None, OnErr, codes};
 ghost use Rattle.gixobj_fsck.specs.Commits.{HasCommitMessage};
 ghost use Rattle.gixobj_fsck_findings.specs.Checks.{AndThen, rest_of};
-ghost use Rattle.gixobj_fsck_findings.specs.CommitChecks.{AreCommitFindings, AuthorLines, AuthorsCheck, CommitCheck, CommitterCheck, FollowsParents, MoreAuthorsCheck, ParentsCheck, PeopleCheck, ZeroCheck};
+ghost use Rattle.gixobj_fsck_findings.specs.CommitChecks.{AreCommitFindings, AuthorLines, AuthorsCheck, CommitCheck};
+ghost use Rattle.gixobj_fsck_findings.specs.CommitChecks.{CommitterCheck, FollowsParents, MoreAuthorsCheck};
+ghost use Rattle.gixobj_fsck_findings.specs.CommitChecks.{ParentsCheck, PeopleCheck, ZeroCheck};
 ghost use Rattle.gixobj_fsck_messages.specs.Options.{severity_by};
 ghost use Rattle.gixobj_parse.specs.HeaderReading.{BeginsWithNoIdField};
 

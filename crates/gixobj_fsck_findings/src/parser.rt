@@ -1,7 +1,8 @@
 //! What git's parser takes of commits and tags. It rejects some malformed objects before `git fsck` checks them.
 ghost use Rattle.std.specs.Prelude.{◌↔◌, ◌*◌, ◌+◌, ◌<◌, IsTrue, codes, length};
 ghost use Rattle.gixobj_fsck.specs.Lines.{BeginsWithName};
-ghost use Rattle.gixobj_fsck_findings.specs.Parser.{AreParsedParents, IsBeforeZero, IsParsedCommit, IsParsedTag, NamesKind};
+ghost use Rattle.gixobj_fsck_findings.specs.Parser.{AreParsedParents, IsBeforeZero, IsParsedCommit, IsParsedTag};
+ghost use Rattle.gixobj_fsck_findings.specs.Parser.{NamesKind};
 ghost use Rattle.gixobj_hash.specs.Hash.{hash_len};
 
 use gixobj_hash::Kind as ObjectKind;

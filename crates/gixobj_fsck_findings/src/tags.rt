@@ -2,7 +2,8 @@
 ghost use Rattle.std.specs.Prelude.{◌≡◌, IfOk, None, OnErr, codes};
 ghost use Rattle.gixobj_fsck_tags.specs.Tags.{HasTagMessage};
 ghost use Rattle.gixobj_fsck_findings.specs.Checks.{rest_of};
-ghost use Rattle.gixobj_fsck_findings.specs.TagChecks.{AreTagFindings, ExtraCheck, IsFieldFault, NameCheck, NamesCheck, TagCheck, TaggerCheck, TypeCheck};
+ghost use Rattle.gixobj_fsck_findings.specs.TagChecks.{AreTagFindings, ExtraCheck, IsFieldFault, NameCheck, NamesCheck};
+ghost use Rattle.gixobj_fsck_findings.specs.TagChecks.{TagCheck, TaggerCheck, TypeCheck};
 ghost use Rattle.gixobj_fsck_messages.specs.Options.{severity_by};
 ghost use Rattle.gixobj_hash.specs.HeaderFormat.{BeginsWithNoField};
 

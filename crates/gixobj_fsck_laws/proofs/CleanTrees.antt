@@ -1,5 +1,6 @@
 -- A tree without a message is safe.
-use Rattle.std.proofs.Common.{◌≡◌, ◌≢◌, ◌<◌, ◌^◌, ◌∙◌, ◌++◌, ℕ, Bool, List, [], ◌∷◌, All, ap, append_assoc, arith, inl, inr, length, map, refl, slice_index, subst, sym}
+use Rattle.std.proofs.Common.{◌≡◌, ◌≢◌, ◌<◌, ◌^◌, ◌∙◌, ◌++◌, ℕ, Bool, List, [], ◌∷◌, All, ap, append_assoc, arith, inl, inr, length, map, refl, slice_index}
+use Rattle.std.proofs.Common.{subst, sym}
 use Rattle.std.specs.List.{AllByRecursion, AllZip, concat}
 use Rattle.std.specs.Str.Parse.{digits_value}
 use Rattle.std.proofs.lemmas.List.Elements.{All-from_recursion}
@@ -20,7 +21,8 @@ use Rattle.gixobj_fsck_trees.specs.EntryMessages.{HasBadMode, HasEntryMessage}
 use Rattle.gixobj_fsck_trees.specs.RawEntries.{BeginsWithRawEntry, RawEntryStep, RawEntryView, ReadsTree, YieldsRawEntries}
 use Rattle.gixobj_fsck_trees.specs.TreeMessages.{HasEntry, HasNameTwice, HasStepDown, ReportsOfTree}
 use Rattle.gixobj_fsck_laws.proofs.CanonicalDigits.{canonical_digits, git_mode_decodes}
-use Rattle.gixobj_fsck_laws.proofs.CleanEntries.{IsCleanEntry, decoded_view, entry_name_of_clean, first_digit_of_clean, git_mode_of_clean, id_from_bytes, is_id_of_bytes, none_has_bad_mode, none_has_message, safe_of_clean}
+use Rattle.gixobj_fsck_laws.proofs.CleanEntries.{IsCleanEntry, decoded_view, entry_name_of_clean, first_digit_of_clean, git_mode_of_clean, id_from_bytes}
+use Rattle.gixobj_fsck_laws.proofs.CleanEntries.{is_id_of_bytes, none_has_bad_mode, none_has_message, safe_of_clean}
 use Rattle.gixobj_fsck_laws.proofs.CleanOrder.{apart_of_clean, ascending_of_clean}
 use Rattle.gixobj_fsck_laws.specs.CleanTrees.{HaveSmallModes, IsCleanTree, IsGitMode, IsSafeEntry, IsSafeTree, next_entry, no_entry}
 

@@ -1,6 +1,7 @@
 //! Messages, their names and their numbers.
 ghost use Rattle.std.specs.Prelude.{◌≡◌, ◌<◌, ◌≤◌, IfSome, MatchOption};
-ghost use Rattle.gixobj_fsck_messages.specs.Messages.{NamesMessage, NamesNoMessage, message_count, message_name, message_number};
+ghost use Rattle.gixobj_fsck_messages.specs.Messages.{NamesMessage, NamesNoMessage, message_count, message_name};
+ghost use Rattle.gixobj_fsck_messages.specs.Messages.{message_number};
 ghost use Rattle.gixobj_fsck_messages.specs.Severities.{documented_severity, made_strict, severity_of};
 
 use crate::Severity;

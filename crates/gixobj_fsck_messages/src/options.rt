@@ -1,6 +1,7 @@
 //! Options of a check: strict or not, and severities that replace those of git's documentation.
 ghost use Rattle.std.specs.Prelude.{◌≡◌, ◌≢◌, ◌↔◌, IfErr, IsOk, IsTrue, OnErr, OnOk};
-ghost use Rattle.gixobj_fsck_messages.specs.Options.{CanOverride, IsOverrideError, Overrides, has_message, is_strict_by, severity_by};
+ghost use Rattle.gixobj_fsck_messages.specs.Options.{CanOverride, IsOverrideError, Overrides, has_message};
+ghost use Rattle.gixobj_fsck_messages.specs.Options.{is_strict_by, severity_by};
 ghost use Rattle.gixobj_fsck_messages.specs.Severities.{severity_of};
 ghost use Rattle.gixobj_fsck_messages.specs.declared.message.Message.{Message as MessageType};
 

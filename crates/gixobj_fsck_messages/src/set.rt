@@ -13,7 +13,8 @@ pub struct Messages {
 }
 
 impl Messages {
-    ghost use Rattle.gixobj_fsck_messages.specs.Sets.{HasMessage, HasNoMessage, HasError, Inserts, IsFirstMessage, IsWorst, Removes};
+    ghost use Rattle.gixobj_fsck_messages.specs.Sets.{HasMessage, HasNoMessage, HasError, Inserts, IsFirstMessage};
+    ghost use Rattle.gixobj_fsck_messages.specs.Sets.{IsWorst, Removes};
 
     /// Returns the empty set. Allocates nothing.
     pub fn new() -> Messages

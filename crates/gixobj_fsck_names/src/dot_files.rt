@@ -1,6 +1,7 @@
 //! Names of the files that git reads from trees.
 ghost use Rattle.std.specs.Prelude.{◌≡◌, ◌⊎◌, ◌↔◌, IsTrue};
-ghost use Rattle.gixobj_fsck_names.specs.DotFiles.{IsFileOnNtfs, IsGitAttributes, IsGitIgnore, IsGitModules, IsGitModulesFile, IsGitModulesOnNtfs, IsMailmap};
+ghost use Rattle.gixobj_fsck_names.specs.DotFiles.{IsFileOnNtfs, IsGitAttributes, IsGitIgnore, IsGitModules};
+ghost use Rattle.gixobj_fsck_names.specs.DotFiles.{IsGitModulesFile, IsGitModulesOnNtfs, IsMailmap};
 ghost use Rattle.gixobj_fsck_names.specs.DotGit.{HasAfterBackslash, IsCountAfterBackslashes};
 ghost use Rattle.gixobj_fsck_names.specs.Letters.{backslash};
 ghost use Rattle.gixobj_fsck_names.specs.Walks.{FindsBackslash};

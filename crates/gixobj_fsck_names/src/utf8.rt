@@ -1,6 +1,7 @@
 //! Characters in UTF-8.
 ghost use Rattle.std.specs.Prelude.{◌↔◌, IsTrue};
-ghost use Rattle.gixobj_fsck_names.specs.Utf8.{AreFirstOfFour, AreFirstOfThree, BeginsWithCharacter, BeginsWithFour, BeginsWithThree, BeginsWithTwo, IsContinuation};
+ghost use Rattle.gixobj_fsck_names.specs.Utf8.{AreFirstOfFour, AreFirstOfThree, BeginsWithCharacter, BeginsWithFour};
+ghost use Rattle.gixobj_fsck_names.specs.Utf8.{BeginsWithThree, BeginsWithTwo, IsContinuation};
 
 /// Returns whether the bytes begin with a character.
 pub(crate) fn begins_with_character(bytes: &[u8]) -> bool

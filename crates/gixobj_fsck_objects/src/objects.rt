@@ -1,6 +1,7 @@
 //! The verdict about an object.
 ghost use Rattle.std.specs.Prelude.{◌↔◌, IfOk, IsTrue, OnErr, true};
-ghost use Rattle.gixobj_fsck_objects.specs.Objects.{AreFindings, IsAcceptedObject, IsAcceptedTree, IsReceivedObject, MayAllocate};
+ghost use Rattle.gixobj_fsck_objects.specs.Objects.{AreFindings, IsAcceptedObject, IsAcceptedTree, IsReceivedObject};
+ghost use Rattle.gixobj_fsck_objects.specs.Objects.{MayAllocate};
 ghost use Rattle.gixobj_fsck.specs.Commits.{IsAcceptedCommit};
 ghost use Rattle.gixobj_fsck_findings.specs.Parser.{IsParsedCommit, IsParsedTag};
 ghost use Rattle.gixobj_fsck_tags.specs.Tags.{IsAcceptedTag};

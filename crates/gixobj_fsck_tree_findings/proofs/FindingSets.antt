@@ -1,5 +1,6 @@
 -- Which messages have findings.
-use Rattle.std.proofs.Common.{◌≡◌, ◌≢◌, ◌∙◌, ◌⊎◌, ◌↔◌, ◌++◌, ◌+◌, Bool, true, false, cond, ℕ, zero, suc, List, [], ◌∷◌, IsTrue, ap, arith, inl, inr, refl, replicate, subst, sym}
+use Rattle.std.proofs.Common.{◌≡◌, ◌≢◌, ◌∙◌, ◌⊎◌, ◌↔◌, ◌++◌, ◌+◌, Bool, true, false, cond, ℕ, zero, suc, List, [], ◌∷◌, IsTrue, ap, arith, inl, inr, refl}
+use Rattle.std.proofs.Common.{replicate, subst, sym}
 use Rattle.gixobj_fsck_messages.specs.Options.{is_reported_by}
 use Rattle.gixobj_fsck_messages.specs.declared.finding.Finding.{Finding}
 use Rattle.gixobj_fsck_messages.specs.declared.message.Message.{Message}

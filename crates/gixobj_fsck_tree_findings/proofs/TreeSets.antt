@@ -12,16 +12,19 @@ use Rattle.gixobj_fsck_messages.specs.declared.severity.Severity.{Severity}
 use Rattle.gixobj_fsck_names.specs.DotFiles.{IsGitModules, IsGitModulesOnNtfs}
 use Rattle.gixobj_hash.specs.Runs.{Ending}
 use Rattle.gixobj_hash.specs.declared.hash.kind.Kind.{Kind}
-use Rattle.gixobj_fsck_trees.proofs.FirstOffsets.{entry_of_first, has_entry_of, has_entry_split, name_twice_of_repeat, no_entry_of_no_first, no_name_twice, no_step_of_no_first, step_of_first}
+use Rattle.gixobj_fsck_trees.proofs.FirstOffsets.{entry_of_first, has_entry_of, has_entry_split, name_twice_of_repeat, no_entry_of_no_first, no_name_twice}
+use Rattle.gixobj_fsck_trees.proofs.FirstOffsets.{no_step_of_no_first, step_of_first}
 use Rattle.gixobj_fsck_trees.proofs.UniqueReads.{tree_reads_uniquely}
 use Rattle.gixobj_fsck_trees.specs.EntryMessages.{HasBadMode, HasEntryMessage, HasFault, HasLinkMessage, IsLink}
 use Rattle.gixobj_fsck_trees.specs.FirstOffsets.{IsFirstOffset}
 use Rattle.gixobj_fsck_trees.specs.RawEntries.{RawEntryView}
 use Rattle.gixobj_fsck_trees.specs.TreeMessages.{HasEntry, ReportsOfTree, compared}
-use Rattle.gixobj_fsck_tree_findings.proofs.FindingSets.{after_backslash_of_count, append_has, count_of_after_backslash, has_of_append, has_of_offset, has_of_replicate, has_of_reported, offset_of_has, replicate_has}
+use Rattle.gixobj_fsck_tree_findings.proofs.FindingSets.{after_backslash_of_count, append_has, count_of_after_backslash, has_of_append, has_of_offset}
+use Rattle.gixobj_fsck_tree_findings.proofs.FindingSets.{has_of_replicate, has_of_reported, offset_of_has, replicate_has}
 use Rattle.gixobj_fsck_tree_findings.specs.Findings.{HasFinding, ListsInOrder, finding_at, reported}
 use Rattle.gixobj_fsck_tree_findings.specs.Laws.{HaveDefaultMessages, HaveSetOfMessages, HaveTreeMessages, IsAmong, OverridesNothing}
-use Rattle.gixobj_fsck_tree_findings.specs.TreeFindings.{AreEntryFindings, AreFindingsOfLinks, AreLinkFindings, AreTreeFindings, HasFileName, IsFaultOffset, IsLinkOffset, fault_order, link_order}
+use Rattle.gixobj_fsck_tree_findings.specs.TreeFindings.{AreEntryFindings, AreFindingsOfLinks, AreLinkFindings, AreTreeFindings, HasFileName, IsFaultOffset}
+use Rattle.gixobj_fsck_tree_findings.specs.TreeFindings.{IsLinkOffset, fault_order, link_order}
 
 -- ---- links
 

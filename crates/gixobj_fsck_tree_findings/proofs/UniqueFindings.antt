@@ -15,7 +15,8 @@ use Rattle.gixobj_fsck_trees.specs.RawEntries.{RawEntryView}
 use Rattle.gixobj_fsck_trees.specs.TreeMessages.{compared}
 use Rattle.gixobj_fsck_tree_findings.specs.Findings.{ListsInOrder, finding_at, reported}
 use Rattle.gixobj_fsck_tree_findings.specs.Laws.{HaveUniqueFindings}
-use Rattle.gixobj_fsck_tree_findings.specs.TreeFindings.{AreEntryFindings, AreFindingsOfLinks, AreLinkFindings, IsFaultOffset, IsLinkOffset, fault_order, link_order}
+use Rattle.gixobj_fsck_tree_findings.specs.TreeFindings.{AreEntryFindings, AreFindingsOfLinks, AreLinkFindings, IsFaultOffset, IsLinkOffset, fault_order}
+use Rattle.gixobj_fsck_tree_findings.specs.TreeFindings.{link_order}
 
 -- two offsets with the property are equal
 abbrev pub IsUniqueOffset : (ℕ → Type 0) → Type 0

@@ -5,7 +5,8 @@ use Rattle.gixobj_fsck_messages.specs.declared.finding.Finding.{Finding}
 use Rattle.gixobj_fsck_messages.specs.declared.message.Message.{Message}
 use Rattle.gixobj_fsck_messages.specs.declared.message.Message.TheVariants as message
 use Rattle.gixobj_fsck_messages.specs.declared.options.Options.{Options}
-use Rattle.gixobj_fsck_names.specs.DotFiles.{IsGitAttributes, IsGitIgnore, IsGitModulesFile, IsGitModulesOnNtfs, IsMailmap}
+use Rattle.gixobj_fsck_names.specs.DotFiles.{IsGitAttributes, IsGitIgnore, IsGitModulesFile, IsGitModulesOnNtfs}
+use Rattle.gixobj_fsck_names.specs.DotFiles.{IsMailmap}
 use Rattle.gixobj_fsck_names.specs.DotGit.{IsCountAfterBackslashes}
 use Rattle.gixobj_hash.specs.Runs.{Ending, broken}
 use Rattle.gixobj_hash.specs.declared.hash.kind.Kind.{Kind}

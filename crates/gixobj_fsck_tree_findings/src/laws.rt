@@ -1,5 +1,6 @@
 //! Laws of the findings about trees.
-ghost use Rattle.gixobj_fsck_tree_findings.specs.Laws.{HaveDefaultMessages, HaveSetOfMessages, HaveTreeMessages, HaveUniqueFindings};
+ghost use Rattle.gixobj_fsck_tree_findings.specs.Laws.{HaveDefaultMessages, HaveSetOfMessages, HaveTreeMessages};
+ghost use Rattle.gixobj_fsck_tree_findings.specs.Laws.{HaveUniqueFindings};
 
 use gixobj_fsck_messages::Options;
 use gixobj_hash::hash::Kind;

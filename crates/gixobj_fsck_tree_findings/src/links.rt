@@ -3,7 +3,8 @@ ghost use Rattle.std.specs.Prelude.{◌≡◌, ◌↔◌, ◌<◌, ◌++◌, IsT
 ghost use Rattle.gixobj_fsck_trees.specs.FirstOffsets.{FindsOffset};
 ghost use Rattle.gixobj_fsck_trees.specs.RawViews.{raw_entry_view, raw_entry_views};
 ghost use Rattle.gixobj_fsck_tree_findings.specs.Findings.{AppendsFindings, ListsInOrder, finding_at, reported};
-ghost use Rattle.gixobj_fsck_tree_findings.specs.TreeFindings.{AreEntryFindings, AreFindingsOfLinks, AreLinkFindings, HasFileName, IsLinkOffset};
+ghost use Rattle.gixobj_fsck_tree_findings.specs.TreeFindings.{AreEntryFindings, AreFindingsOfLinks, AreLinkFindings};
+ghost use Rattle.gixobj_fsck_tree_findings.specs.TreeFindings.{HasFileName, IsLinkOffset};
 
 use crate::report::{report, report_found};
 use gixobj_fsck_messages::{Finding, Message, Options};

@@ -1,5 +1,6 @@
 -- The first occurrence of a byte among the first bytes, by a mask with a bit for each byte.
-use Rattle.std.proofs.Common.{add-one, ◌≡◌, ◌≢◌, ◌<◌, ◌≤◌, ◌+◌, ◌*◌, ◌∷◌, ℕ, zero, suc, Bool, IsTrue, cond, false, true, List, [], ap, arith, drop, eqb, get_or, inl, inr, length, map, not, subst, sym, take, ◌∙◌}
+use Rattle.std.proofs.Common.{add-one, ◌≡◌, ◌≢◌, ◌<◌, ◌≤◌, ◌+◌, ◌*◌, ◌∷◌, ℕ, zero, suc, Bool, IsTrue, cond, false, true, List, [], ap, arith, drop, eqb, get_or}
+use Rattle.std.proofs.Common.{inl, inr, length, map, not, subst, sym, take, ◌∙◌}
 use Rattle.std.proofs.lemmas.Bool.{cases_lt, eqb-true}
 use Rattle.std.proofs.lemmas.Bool.Decides.{eqb_tells}
 use Rattle.std.proofs.lemmas.List.Elements.{All-cons, All-from_get_or, All-nil}

@@ -1,10 +1,12 @@
 -- The entries that are read of a tree, one after another.
-use Rattle.std.proofs.Common.{Result, Ok, Err, OnErr, ◌<◌, ◌+◌, arith, length, ◌≡◌, ◌≢◌, ◌↔◌, IsTrue, not, ℕ, Bool, true, false, List, [], ◌∷◌, ◌++◌, inl, inr, refl}
+use Rattle.std.proofs.Common.{Result, Ok, Err, OnErr, ◌<◌, ◌+◌, arith, length, ◌≡◌, ◌≢◌, ◌↔◌, IsTrue, not, ℕ, Bool, true, false, List, [], ◌∷◌, ◌++◌, inl, inr}
+use Rattle.std.proofs.Common.{refl}
 use Rattle.std.proofs.lemmas.List.{map-append}
 use Rattle.gixobj_hash.proofs.Runs.{begins_with_pieces_snoc, yields_of_begins_with_pieces}
 use Rattle.gixobj_hash.specs.Runs.{BeginsWithPieces, Ending, HasNoPiece, Yields, broken, complete, yields_end, yields_error, yields_piece}
 use Rattle.gixobj_hash.specs.declared.hash.kind.Kind.{Kind}
-use Rattle.gixobj_fsck_trees.specs.RawEntries.{BeginsWithNoRawEntry, BeginsWithRawEntry, BeginsWithSomeRawEntry, EndsWithId, RawEntryStep, RawEntryView, ReadsTree, YieldsRawEntries, end_after, end_of, ending_of}
+use Rattle.gixobj_fsck_trees.specs.RawEntries.{BeginsWithNoRawEntry, BeginsWithRawEntry, BeginsWithSomeRawEntry, EndsWithId, RawEntryStep, RawEntryView}
+use Rattle.gixobj_fsck_trees.specs.RawEntries.{ReadsTree, YieldsRawEntries, end_after, end_of, ending_of}
 use Rattle.gixobj_fsck_trees.specs.RawViews.{raw_entry_view, raw_entry_views}
 use Rattle.gixobj_fsck_trees.specs.declared.raw_entry.RawEntry.{RawEntry}
 

@@ -3,7 +3,8 @@ ghost use Rattle.std.specs.Prelude.{◌≡◌, ◌⊎◌, ◌↔◌, ◌==◌, A
 ghost use Rattle.gixobj_fsck_messages.specs.Sets.{HasMessage};
 ghost use Rattle.gixobj_fsck_messages.specs.declared.message.Message.{Message as MessageType};
 ghost use Rattle.gixobj_hash.specs.Bytes.{slash};
-ghost use Rattle.gixobj_fsck_trees.specs.EntryMessages.{HasBadMode, HasEntryMessage, HasFault, HasLinkMessage, HasNameMessage, IsLink, IsPlainName, MayBeginFault};
+ghost use Rattle.gixobj_fsck_trees.specs.EntryMessages.{HasBadMode, HasEntryMessage, HasFault, HasLinkMessage};
+ghost use Rattle.gixobj_fsck_trees.specs.EntryMessages.{HasNameMessage, IsLink, IsPlainName, MayBeginFault};
 ghost use Rattle.gixobj_fsck_trees.specs.RawViews.{raw_entry_view};
 ghost use Rattle.gixobj_fsck_trees.specs.TreeMessages.{is_directory as is_directory_of};
 

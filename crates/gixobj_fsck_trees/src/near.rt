@@ -1,5 +1,6 @@
 //! Searches of bytes that are near, 32 or 8 at once.
-ghost use Rattle.std.specs.Prelude.{◌≢◌, ◌↔◌, ◌≤◌, ◌<◌, ◌+◌, ℕ, IfNone, IfSome, IsTrue, drop, length, slice_index, take};
+ghost use Rattle.std.specs.Prelude.{◌≢◌, ◌↔◌, ◌≤◌, ◌<◌, ◌+◌, ℕ, IfNone, IfSome, IsTrue, drop, length, slice_index};
+ghost use Rattle.std.specs.Prelude.{take};
 ghost use Rattle.gixobj_fsck_names.specs.Letters.{backslash, slash};
 ghost use Rattle.gixobj_hash.specs.ByteStrings.{IsByteFree, SplitsAt};
 

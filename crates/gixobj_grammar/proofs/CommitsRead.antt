@@ -11,9 +11,11 @@ use Rattle.gixobj_hash.specs.FieldFormat.{encode_field}
 use Rattle.gixobj_hash.specs.Runs.{BeginsWithPieces}
 use Rattle.gixobj_hash.specs.Hash.Hex.{IsIdHexOfKind}
 use Rattle.gixobj_hash.specs.declared.hash.kind.Kind.{Kind}
-use Rattle.gixobj_grammar.specs.Commit.{DecodesToHeaders, BeginsCommit, CommitLines, DecodesToCommit, IsEncoding, before_encoding, encode_encoding, encode_ids, encode_parent}
+use Rattle.gixobj_grammar.specs.Commit.{DecodesToHeaders, BeginsCommit, CommitLines, DecodesToCommit, IsEncoding, before_encoding, encode_encoding, encode_ids}
+use Rattle.gixobj_grammar.specs.Commit.{encode_parent}
 use Rattle.gixobj_grammar.specs.CommitBuilding.{gather, gathered, empty_commit}
-use Rattle.gixobj_grammar.specs.Lines.{BeginsWithLine, LineView, author_comes, committer_comes, encoding_comes, first_header_comes, first_message_comes, header_comes, header_line, message_comes, parent_comes, tree_comes}
+use Rattle.gixobj_grammar.specs.Lines.{BeginsWithLine, LineView, author_comes, committer_comes, encoding_comes, first_header_comes, first_message_comes}
+use Rattle.gixobj_grammar.specs.Lines.{header_comes, header_line, message_comes, parent_comes, tree_comes}
 use Rattle.gixobj_actor.specs.Actor.{NamesActor}
 use Rattle.gixobj_grammar.specs.declared.lines.State.{State}
 use Rattle.gixobj_grammar.specs.declared.lines.State.TheVariants as state

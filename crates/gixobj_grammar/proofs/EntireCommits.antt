@@ -15,12 +15,16 @@ use Rattle.gixobj_hash.specs.Hash.Hex.{IsIdHexOfKind}
 use Rattle.gixobj_hash.specs.declared.decode.Error.{Error}
 use Rattle.gixobj_hash.specs.declared.decode.Error.TheVariants.{Malformed, OutOfMemory}
 use Rattle.gixobj_hash.specs.declared.hash.kind.Kind.{Kind}
-use Rattle.gixobj_grammar.proofs.CommitsRead.{Reads, is_encoding_snoc, is_encoding_snoc_first, begins_commit_gather_header, reads_gathered_of_empty, reads_gather, headers_snoc_not_nil}
+use Rattle.gixobj_grammar.proofs.CommitsRead.{Reads, is_encoding_snoc, is_encoding_snoc_first, begins_commit_gather_header, reads_gathered_of_empty}
+use Rattle.gixobj_grammar.proofs.CommitsRead.{reads_gather, headers_snoc_not_nil}
 use Rattle.gixobj_grammar.proofs.LinesYielded.{yields_lines_of_commit}
 use Rattle.gixobj_grammar.proofs.OneLine.{line_len_lt, no_line_of_nil, line_unique}
-use Rattle.gixobj_grammar.specs.Commit.{CommitLines, DecodesToCommit, IsCommit, IsMalformedCommit, ReachesHeader, ReachesSecondParent, IsCommitDecodeError, encoding_lines, lines_of_commit, encode_parent}
+use Rattle.gixobj_grammar.specs.Commit.{CommitLines, DecodesToCommit, IsCommit, IsMalformedCommit, ReachesHeader, ReachesSecondParent, IsCommitDecodeError}
+use Rattle.gixobj_grammar.specs.Commit.{encoding_lines, lines_of_commit, encode_parent}
 use Rattle.gixobj_grammar.specs.CommitBuilding.{Gathers, Allocates, gather, gathered, empty_commit}
-use Rattle.gixobj_grammar.specs.Lines.{BeginsWithLine, BeginsWithSomeLine, LineView, MayFold, IsLineError, author_comes, author_line, committer_comes, committer_line, encoding_comes, first_header_comes, first_message_comes, header_comes, header_line, message_comes, message_line, parent_comes, parent_line, tree_comes, tree_line}
+use Rattle.gixobj_grammar.specs.Lines.{BeginsWithLine, BeginsWithSomeLine, LineView, MayFold, IsLineError, author_comes, author_line, committer_comes}
+use Rattle.gixobj_grammar.specs.Lines.{committer_line, encoding_comes, first_header_comes, first_message_comes, header_comes, header_line, message_comes}
+use Rattle.gixobj_grammar.specs.Lines.{message_line, parent_comes, parent_line, tree_comes, tree_line}
 use Rattle.gixobj_hash.specs.ByteStrings.{IsByteFree}
 use Rattle.gixobj_grammar.specs.declared.lines.State.{State}
 use Rattle.gixobj_grammar.specs.declared.lines.State.TheVariants as state

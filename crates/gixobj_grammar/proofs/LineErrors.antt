@@ -10,7 +10,8 @@ use Rattle.gixobj_hash.specs.declared.decode.Error.{Error}
 use Rattle.gixobj_hash.specs.declared.decode.Error.TheVariants.{Malformed, OutOfMemory}
 use Rattle.gixobj_hash.specs.declared.hash.kind.Kind.{Kind}
 use Rattle.gixobj_grammar.proofs.OneLine.{input_of_flat_field, header_name_prefix, encoding_name_space_free, header_name_eq}
-use Rattle.gixobj_grammar.specs.Lines.{BeginsWithLine, BeginsWithNoActorField, LineView, IsLineError, encoding_comes, first_header_comes, first_message_comes, header_comes, message_comes}
+use Rattle.gixobj_grammar.specs.Lines.{BeginsWithLine, BeginsWithNoActorField, LineView, IsLineError, encoding_comes, first_header_comes, first_message_comes}
+use Rattle.gixobj_grammar.specs.Lines.{header_comes, message_comes}
 use Rattle.gixobj_grammar.specs.declared.lines.State.{State}
 use Rattle.gixobj_grammar.specs.declared.lines.State.TheVariants as state
 

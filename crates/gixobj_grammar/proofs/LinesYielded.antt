@@ -9,8 +9,11 @@ use Rattle.gixobj_hash.specs.FieldFormat.{encode_field}
 use Rattle.gixobj_hash.specs.Runs.{Yields, complete, yields_end, yields_piece}
 use Rattle.gixobj_hash.specs.Hash.Hex.{IsIdHexOfKind}
 use Rattle.gixobj_hash.specs.declared.hash.kind.Kind.{Kind}
-use Rattle.gixobj_grammar.specs.Commit.{DecodesToHeaders, CommitLines, DecodesToCommit, IsEncoding, encoding_lines, encode_encoding, lines_of_commit, encode_parent}
-use Rattle.gixobj_grammar.specs.Lines.{BeginsWithLine, LineView, author_comes, author_line, committer_comes, committer_line, encoding_comes, encoding_line, first_header_comes, first_message_comes, header_comes, header_line, message_comes, message_line, parent_comes, parent_line, tree_comes, tree_line}
+use Rattle.gixobj_grammar.specs.Commit.{DecodesToHeaders, CommitLines, DecodesToCommit, IsEncoding, encoding_lines, encode_encoding, lines_of_commit}
+use Rattle.gixobj_grammar.specs.Commit.{encode_parent}
+use Rattle.gixobj_grammar.specs.Lines.{BeginsWithLine, LineView, author_comes, author_line, committer_comes, committer_line, encoding_comes, encoding_line}
+use Rattle.gixobj_grammar.specs.Lines.{first_header_comes, first_message_comes, header_comes, header_line, message_comes, message_line, parent_comes}
+use Rattle.gixobj_grammar.specs.Lines.{parent_line, tree_comes, tree_line}
 use Rattle.gixobj_actor.specs.Actor.{NamesActor}
 use Rattle.gixobj_grammar.specs.declared.lines.State.TheVariants as state
 use Rattle.gixobj_hash.specs.ByteStrings.{IsByteFree}

@@ -10,7 +10,9 @@ use Rattle.gixobj_parse.proofs.HeaderFields.{first_bytes_eq, field_unique, heade
 use Rattle.gixobj_hash.specs.HeaderFormat.{BeginsWithField, BeginsWithHeader, Header, IsHeaderName, encode_continuation}
 use Rattle.gixobj_hash.specs.FieldFormat.{encode_field}
 use Rattle.gixobj_hash.specs.declared.hash.kind.Kind.{Kind}
-use Rattle.gixobj_grammar.specs.Lines.{BeginsWithLine, LineView, author_comes, committer_comes, encoding_comes, first_header_comes, first_message_comes, header_comes, header_line, message_comes, parent_comes, parent_line, tree_comes, tree_line, author_line, committer_line, encoding_line, message_line}
+use Rattle.gixobj_grammar.specs.Lines.{BeginsWithLine, LineView, author_comes, committer_comes, encoding_comes, first_header_comes, first_message_comes}
+use Rattle.gixobj_grammar.specs.Lines.{header_comes, header_line, message_comes, parent_comes, parent_line, tree_comes, tree_line, author_line, committer_line}
+use Rattle.gixobj_grammar.specs.Lines.{encoding_line, message_line}
 use Rattle.gixobj_grammar.specs.declared.lines.State.{State}
 
 pub input_of_flat_field : (name input value rest : List ℕ) → BeginsWithField name input value rest → input ≡ name ++ 32 ∷ (value ++ 10 ∷ rest)

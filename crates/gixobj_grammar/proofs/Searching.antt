@@ -1,5 +1,6 @@
 -- The lines of a commit up to a header of a name: for `find_header`.
-use Rattle.std.proofs.Common.{◌≡◌, ◌≢◌, ◌+◌, ◌-◌, ◌++◌, ◌∷◌, ◌==◌, ◌∙◌, true, false, append_assoc, append-nil, arith, ap, codes, length, refl, sym, take, ℕ, List, []}
+use Rattle.std.proofs.Common.{◌≡◌, ◌≢◌, ◌+◌, ◌-◌, ◌++◌, ◌∷◌, ◌==◌, ◌∙◌, true, false, append_assoc, append-nil, arith, ap, codes, length, refl, sym, take, ℕ}
+use Rattle.std.proofs.Common.{List, []}
 use Rattle.std.proofs.Math.Seq.{take-append_seam}
 use Rattle.std.proofs.lemmas.Bool.{eqb-true}
 use Rattle.std.proofs.lemmas.List.{length-append, length-take}
@@ -11,7 +12,8 @@ use Rattle.gixobj_hash.specs.Runs.{BeginsWithOtherPieces, Yields, broken, comple
 use Rattle.gixobj_hash.specs.declared.decode.Error.{Error}
 use Rattle.gixobj_hash.specs.declared.decode.Error.TheVariants.{Malformed, OutOfMemory}
 use Rattle.gixobj_hash.specs.declared.hash.kind.Kind.{Kind}
-use Rattle.gixobj_grammar.specs.Lines.{BeginsWithLine, LineView, IsLineError, author_comes, committer_comes, encoding_comes, first_header_comes, first_message_comes, header_comes, message_comes, parent_comes, tree_comes}
+use Rattle.gixobj_grammar.specs.Lines.{BeginsWithLine, LineView, IsLineError, author_comes, committer_comes, encoding_comes, first_header_comes}
+use Rattle.gixobj_grammar.specs.Lines.{first_message_comes, header_comes, message_comes, parent_comes, tree_comes}
 use Rattle.gixobj_grammar.specs.declared.lines.State.{State}
 use Rattle.gixobj_grammar.specs.declared.lines.State.TheVariants as state
 use Rattle.gixobj_grammar.specs.CommitHeaders.{IsNamedLine, IsNamedHeaderError}

@@ -3,7 +3,8 @@
 use Rattle.std.proofs.Common.{◌≡◌, ◌≢◌, ℕ, List, [], ◌∷◌, ◌++◌, append_assoc, refl, subst, sym, ◌∙◌}
 use Rattle.std.specs.List.{flat_map}
 use Rattle.std.specs.Prelude.{IfNone, None, Option, Some, codes}
-use Rattle.gixobj_parse.proofs.HeaderFields.{Unfolding, has_header_of_lines, has_header_of_one_line, no_lines_of_split, is_unfolded_at_end, unfolding_append, unfolding_first}
+use Rattle.gixobj_parse.proofs.HeaderFields.{Unfolding, has_header_of_lines, has_header_of_one_line, no_lines_of_split, is_unfolded_at_end, unfolding_append}
+use Rattle.gixobj_parse.proofs.HeaderFields.{unfolding_first}
 use Rattle.gixobj_parse.specs.HeaderReading.{BeginsWithIdField, BeginsWithContinuations, BeginsWithNoIdField, BeginsWithNoContinuations}
 use Rattle.gixobj_hash.specs.HeaderFormat.{EndsHeader, BeginsWithField, BeginsWithHeader, Header, encode_continuation}
 use Rattle.gixobj_hash.specs.FieldFormat.{encode_line}
@@ -11,7 +12,9 @@ use Rattle.gixobj_hash.specs.Runs.{HasNoPiece}
 use Rattle.gixobj_hash.specs.ByteStrings.{IsByteFree, SplitsAt}
 use Rattle.gixobj_hash.specs.declared.hash.kind.Kind.{Kind}
 use Rattle.gixobj_grammar.proofs.LineErrors.{has_line_at_encoding, no_first}
-use Rattle.gixobj_grammar.specs.Lines.{BeginsWithActorField, BeginsWithLine, BeginsWithNoActorField, LineView, BeginsWithSomeLine, author_comes, author_line, committer_comes, committer_line, encoding_comes, encoding_line, header_comes, header_line, message_comes, message_line, parent_comes, parent_line, tree_comes, tree_line}
+use Rattle.gixobj_grammar.specs.Lines.{BeginsWithActorField, BeginsWithLine, BeginsWithNoActorField, LineView, BeginsWithSomeLine, author_comes, author_line}
+use Rattle.gixobj_grammar.specs.Lines.{committer_comes, committer_line, encoding_comes, encoding_line, header_comes, header_line, message_comes, message_line}
+use Rattle.gixobj_grammar.specs.Lines.{parent_comes, parent_line, tree_comes, tree_line}
 use Rattle.gixobj_grammar.specs.declared.lines.State.{State}
 use Rattle.gixobj_grammar.specs.declared.lines.State.TheVariants as state
 

@@ -1,5 +1,6 @@
 -- Lemmas that the body of a tag splits at its marker, for the decoder of bodies and for entire tags.
-use Rattle.std.proofs.Common.{◌≡◌, ◌≢◌, ◌+◌, ◌-◌, ℕ, List, [], ◌∷◌, ◌++◌, Option, Some, None, IsFalse, IsTrue, append_assoc, ap, arith, drop, inl, inr, length, length-append, subst, sym, take, ◌∙◌}
+use Rattle.std.proofs.Common.{◌≡◌, ◌≢◌, ◌+◌, ◌-◌, ℕ, List, [], ◌∷◌, ◌++◌, Option, Some, None, IsFalse, IsTrue, append_assoc, ap, arith, drop, inl, inr, length}
+use Rattle.std.proofs.Common.{length-append, subst, sym, take, ◌∙◌}
 use Rattle.std.proofs.Math.Seq.{drop-append_seam, take-append_seam}
 use Rattle.std.proofs.lemmas.Bool.{true≢false}
 use Rattle.std.proofs.lemmas.List.{take_rest}

@@ -7,7 +7,8 @@ use Rattle.gixobj_actor.specs.declared.actor.SignatureRef.{SignatureRef}
 use Rattle.gixobj_hash.specs.declared.hash.kind.Kind as hash
 use Rattle.gixobj_grammar.specs.TagLines.{BeginsWithMalformedTagger, BeginsWithTagger}
 use Rattle.gixobj_grammar.specs.TagLineViews.{IsParsedTagger, line_if_some}
-use Rattle.gixobj_grammar.specs.TagTokens.{BeginsWithTagToken, IsTokenOfTagger, TagTokenView, no_tagger_comes, tagger_comes, tagger_token, yields_no_tagger, yields_tagger}
+use Rattle.gixobj_grammar.specs.TagTokens.{BeginsWithTagToken, IsTokenOfTagger, TagTokenView, no_tagger_comes, tagger_comes, tagger_token, yields_no_tagger}
+use Rattle.gixobj_grammar.specs.TagTokens.{yields_tagger}
 use Rattle.gixobj_grammar.specs.declared.tokens.State.{State}
 use Rattle.gixobj_grammar.specs.declared.tokens.State.TheVariants as state
 

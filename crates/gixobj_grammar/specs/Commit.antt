@@ -7,7 +7,8 @@ use Rattle.gixobj_hash.specs.Hash.Hex.{IsIdHexOfKind}
 use Rattle.gixobj_hash.specs.declared.decode.Error.{Error}
 use Rattle.gixobj_hash.specs.declared.decode.Error.TheVariants.{Malformed, OutOfMemory}
 use Rattle.gixobj_hash.specs.declared.hash.kind.Kind.{Kind}
-use Rattle.gixobj_grammar.specs.Lines.{LineView, author_line, committer_line, encoding_line, header_line, message_line, parent_line, tree_line}
+use Rattle.gixobj_grammar.specs.Lines.{LineView, author_line, committer_line, encoding_line, header_line, message_line}
+use Rattle.gixobj_grammar.specs.Lines.{parent_line, tree_line}
 use Rattle.gixobj_actor.specs.Actor.{NamesActor}
 use Rattle.gixobj_hash.specs.Bytes.{newline}
 use Rattle.gixobj_hash.specs.ByteStrings.{IsByteFree}

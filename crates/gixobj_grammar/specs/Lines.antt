@@ -3,7 +3,8 @@ use Rattle.std.specs.Prelude.{◌≡◌, ◌≢◌, ℕ, List, [], ◌∷◌, co
 use Rattle.bstr.specs.BStr.{bstr_bytes}
 use Rattle.gixobj_actor.specs.Actor.{IsActorOf, NamesActor, actor_view}
 use Rattle.gixobj_parse.specs.HeaderReading.{BorrowsOneLine, BeginsWithIdField, header_of}
-use Rattle.gixobj_hash.specs.HeaderFormat.{BeginsWithSeveralLines, BeginsWithField, BeginsWithHeader, Header, BeginsWithOtherName}
+use Rattle.gixobj_hash.specs.HeaderFormat.{BeginsWithSeveralLines, BeginsWithField, BeginsWithHeader, Header}
+use Rattle.gixobj_hash.specs.HeaderFormat.{BeginsWithOtherName}
 use Rattle.gixobj_hash.specs.Runs.{IsPieceError}
 use Rattle.gixobj_hash.specs.Hash.{IsIdHex}
 use Rattle.gixobj_hash.specs.declared.decode.Error.{Error}

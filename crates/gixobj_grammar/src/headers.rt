@@ -4,7 +4,8 @@ ghost use Rattle.std.specs.Prelude.{◌≡◌, ◌++◌, IfErr, IfOk, IfSome, Ma
 ghost use Rattle.std.specs.Cow.{cow_slice_items};
 ghost use Rattle.gixobj_parse.specs.HeaderReading.{BorrowsOneLine};
 ghost use Rattle.gixobj_grammar.specs.Lines.{IsParsedLine, header_line, line_view};
-ghost use Rattle.gixobj_grammar.specs.CommitHeaders.{FindsNamedHeader, HasNamedHeader, HasNoNamedHeader, IsNamedHeaderError, IsNamedLine};
+ghost use Rattle.gixobj_grammar.specs.CommitHeaders.{FindsNamedHeader, HasNamedHeader, HasNoNamedHeader};
+ghost use Rattle.gixobj_grammar.specs.CommitHeaders.{IsNamedHeaderError, IsNamedLine};
 ghost use Rattle.gixobj_grammar.specs.CommitSignatures.{FindsSignature, IsCommitSignatureError, signature_field};
 
 use crate::lines::{Line, State, decode_line};

@@ -7,7 +7,8 @@ ghost use Rattle.gixobj_parse.specs.HeaderReading.{BeginsWithContinuations, Begi
 ghost use Rattle.gixobj_hash.specs.Runs.{HasNoPiece};
 ghost use Rattle.gixobj_hash.specs.ByteStrings.{IsByteFree};
 ghost use Rattle.gixobj_hash.specs.declared.hash.kind.Kind.{Kind};
-ghost use Rattle.gixobj_grammar.specs.Lines.{BeginsWithActorField, BeginsWithLine, BeginsWithNoActorField, BeginsWithSomeLine, IsLineError, IsParsedLine, line_view};
+ghost use Rattle.gixobj_grammar.specs.Lines.{BeginsWithActorField, BeginsWithLine, BeginsWithNoActorField};
+ghost use Rattle.gixobj_grammar.specs.Lines.{BeginsWithSomeLine, IsLineError, IsParsedLine, line_view};
 ghost use Rattle.gixobj_grammar.specs.declared.lines.State.TheVariants as state;
 ghost use Rattle.gixobj_hash.specs.Bytes.{newline};
 

@@ -3,7 +3,8 @@
 ghost use Rattle.std.specs.Prelude.{IfNone, IfSome, MatchBool};
 ghost use Rattle.bstr.specs.BStr.{bstr_bytes};
 ghost use Rattle.gixobj_grammar.specs.TagLineViews.{IsParsedTagger, line_if_some};
-ghost use Rattle.gixobj_grammar.specs.TagLines.{BeginsWithTagName, BeginsWithNoTagName, BeginsWithMalformedTagger, BeginsWithTagger};
+ghost use Rattle.gixobj_grammar.specs.TagLines.{BeginsWithTagName, BeginsWithNoTagName, BeginsWithMalformedTagger};
+ghost use Rattle.gixobj_grammar.specs.TagLines.{BeginsWithTagger};
 ghost use Rattle.gixobj_grammar.specs.TagPrefix.{IsTag, IsTagBody};
 
 use bstr::BStr;

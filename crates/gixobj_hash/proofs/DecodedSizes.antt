@@ -1,5 +1,6 @@
 -- Sizes decode uniquely, without a fault, and have no zero byte.
-use Rattle.std.proofs.Common.{◌≡◌, ◌≢◌, ◌<◌, ◌^◌, slice_index, ℕ, Bool, true, false, cond, List, [], ◌∷◌, length, drop, arith, lit<, refl, inl, inr, ap, sym, ◌∙◌}
+use Rattle.std.proofs.Common.{◌≡◌, ◌≢◌, ◌<◌, ◌^◌, slice_index, ℕ, Bool, true, false, cond, List, [], ◌∷◌, length, drop, arith, lit<, refl, inl, inr, ap, sym}
+use Rattle.std.proofs.Common.{◌∙◌}
 use Rattle.std.proofs.lemmas.Bool.{eqb-true, true≢false}
 use Rattle.std.proofs.lemmas.Bool.Decides.{eqb_tells}
 use Rattle.std.proofs.lemmas.Fmt.{decimal_is_IsNumeral}

@@ -1,6 +1,7 @@
 -- Encoded hex is in lower case, decodes to the same bytes, and re-encodes identically; the laws of hex in module
 -- `laws` use it.
-use Rattle.std.proofs.Common.{◌≡◌, ◌<◌, ◌+◌, ◌*◌, ◌/◌, ◌%◌, ◌==◌, ◌||◌, ℕ, suc, Bool, true, not, List, [], ◌∷◌, length, slice_index, unwrap_or, ◌⊎◌, inl, inr, Some, Ok, arith, refl, ap, sym, ◌∙◌}
+use Rattle.std.proofs.Common.{◌≡◌, ◌<◌, ◌+◌, ◌*◌, ◌/◌, ◌%◌, ◌==◌, ◌||◌, ℕ, suc, Bool, true, not, List, [], ◌∷◌, length, slice_index, unwrap_or, ◌⊎◌, inl, inr}
+use Rattle.std.proofs.Common.{Some, Ok, arith, refl, ap, sym, ◌∙◌}
 use Rattle.std.proofs.lemmas.Bool.{eqb-true}
 use Rattle.std.proofs.lemmas.List.Elements.{All-cons, All-head, All-nil, All-tail}
 use Rattle.std.specs.List.{AllPass}

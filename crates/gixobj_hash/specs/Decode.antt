@@ -6,9 +6,11 @@ use Rattle.bstr.specs.Owned.{bstring_bytes}
 use Rattle.gixobj_hash.specs.declared.decode.LooseContentError.{LooseContentError}
 use Rattle.gixobj_hash.specs.declared.decode.LooseContentError.TheVariants.{Header, Short}
 use Rattle.gixobj_hash.specs.declared.decode.LooseHeaderDecodeError.{LooseHeaderDecodeError}
-use Rattle.gixobj_hash.specs.declared.decode.LooseHeaderDecodeError.TheVariants.{InvalidHeader, ObjectHeader, OutOfMemory, ParseIntegerError}
+use Rattle.gixobj_hash.specs.declared.decode.LooseHeaderDecodeError.TheVariants.{InvalidHeader, ObjectHeader}
+use Rattle.gixobj_hash.specs.declared.decode.LooseHeaderDecodeError.TheVariants.{OutOfMemory, ParseIntegerError}
 use Rattle.gixobj_hash.specs.declared.decode.ParseIntegerErrorKind.{ParseIntegerErrorKind}
-use Rattle.gixobj_hash.specs.declared.decode.ParseIntegerErrorKind.TheVariants.{Empty, InvalidDigit, NegOverflow, PosOverflow}
+use Rattle.gixobj_hash.specs.declared.decode.ParseIntegerErrorKind.TheVariants.{Empty, InvalidDigit, NegOverflow}
+use Rattle.gixobj_hash.specs.declared.decode.ParseIntegerErrorKind.TheVariants.{PosOverflow}
 use Rattle.gixobj_hash.specs.declared.kind.Error.TheVariants as kind_error
 use Rattle.gixobj_hash.specs.declared.kind.Kind.{Kind}
 use Rattle.gixobj_hash.specs.Kind.{IsUnknownKindName, kind_name}

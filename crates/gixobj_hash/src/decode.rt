@@ -1,12 +1,14 @@
 //! Decodes loose objects: the header and the content after it (`gitformat-loose`, "Loose object format").
-ghost use Rattle.std.specs.Prelude.{◌≡◌, ◌↔◌, ◌+◌, ◌<◌, ◌≤◌, ◌^◌, ◌++◌, ◌∷◌, ℕ, List, IsTrue, IfOk, IfErr, Ok, MatchResult, length};
+ghost use Rattle.std.specs.Prelude.{◌≡◌, ◌↔◌, ◌+◌, ◌<◌, ◌≤◌, ◌^◌, ◌++◌, ◌∷◌, ℕ, List, IsTrue, IfOk, IfErr, Ok};
+ghost use Rattle.std.specs.Prelude.{MatchResult, length};
 ghost use Rattle.std.specs.Option.{SomeIff};
 ghost use Rattle.std.specs.Str.Parse.{AllDigits, IsNumeral, digits_value, starts_with_minus};
 ghost use Rattle.gixobj_hash.specs.declared.decode.Error.TheVariants.{OutOfMemory};
 ghost use Rattle.gixobj_hash.specs.declared.kind.Kind.{Kind};
 ghost use Rattle.gixobj_hash.specs.Bytes.{space};
 ghost use Rattle.gixobj_hash.specs.Kind.{kind_name};
-ghost use Rattle.gixobj_hash.specs.Decode.{HasContent, HasLooseHeaderOfLength, HasSizeFault, DecodesToSize, IsLooseHeaderError, IsLooseContentError, IsSizeError, size_digits};
+ghost use Rattle.gixobj_hash.specs.Decode.{HasContent, HasLooseHeaderOfLength, HasSizeFault, DecodesToSize};
+ghost use Rattle.gixobj_hash.specs.Decode.{IsLooseHeaderError, IsLooseContentError, IsSizeError, size_digits};
 
 use crate::split::{are_digits, number_from_digits, split_at_byte};
 use crate::{Kind, kind};

@@ -1,6 +1,7 @@
 -- The changes of pairs of entries are those between the files of the trees of these entries; the proofs of the
 -- comparison use it.
-use Rattle.std.proofs.Common.{◌≡◌, ◌⊎◌, ◌↔◌, ◌∙◌, inl, inr, ⊎_elim, ℕ, zero, suc, Bool, true, false, List, [], ◌∷◌, ◌++◌, ap, map, refl, subst, sym, Option, Some, None}
+use Rattle.std.proofs.Common.{◌≡◌, ◌⊎◌, ◌↔◌, ◌∙◌, inl, inr, ⊎_elim, ℕ, zero, suc, Bool, true, false, List, [], ◌∷◌, ◌++◌, ap, map, refl, subst, sym, Option}
+use Rattle.std.proofs.Common.{Some, None}
 use Rattle.std.specs.List.{AllByRecursion}
 use Rattle.std.specs.Prelude.{IsFalse, MatchOption}
 use Rattle.gix_object.specs.Entries.{EntryView}
@@ -8,10 +9,12 @@ use Rattle.gix_object.specs.Files.{Below, ContainsEntry, FileSet, Files, Path, T
 use Rattle.gix_object.specs.Mode.{is_tree_mode}
 use Rattle.gix_object.specs.WellFormed.{AreApart, IsEntryName, IsWellFormed}
 use Rattle.gix_object.specs.hash.hash.object_id.ObjectId.{ObjectId}
-use Rattle.gixobj_listings.proofs.EntryPairs.{IsAmongPairs, alike_have_equal_keys, equal_keys_are_alike, equal_keys_are_one_pair, has_pair_of_left, has_pair_of_right, pair_has_one_key, pair_of_left_is_unique, pair_of_right_is_unique, sides_of_pair}
+use Rattle.gixobj_listings.proofs.EntryPairs.{IsAmongPairs, alike_have_equal_keys, equal_keys_are_alike, equal_keys_are_one_pair, has_pair_of_left}
+use Rattle.gixobj_listings.proofs.EntryPairs.{has_pair_of_right, pair_has_one_key, pair_of_left_is_unique, pair_of_right_is_unique, sides_of_pair}
 use Rattle.gixobj_listings.proofs.FileListings.{all_by_recursion_of_has}
 use Rattle.gixobj_listings.proofs.Unread.{entry_of_name_is_unique}
-use Rattle.gixobj_listings.specs.Changes.{ChangeView, DiffersAt, EntryPairView, FilesOfSide, HasName, HasNoFile, IsChange, IsChangeOfPair, IsChangeOfPairs, ListsChange, Merges, VersionView, sides, with_name_first}
+use Rattle.gixobj_listings.specs.Changes.{ChangeView, DiffersAt, EntryPairView, FilesOfSide, HasName, HasNoFile, IsChange, IsChangeOfPair, IsChangeOfPairs}
+use Rattle.gixobj_listings.specs.Changes.{ListsChange, Merges, VersionView, sides, with_name_first}
 use Rattle.gixobj_listings.specs.FileLists.{has_names}
 
 -- the change is at or below the name of one of the pairs, and more names follow if and only if it is of directories

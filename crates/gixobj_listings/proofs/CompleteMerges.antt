@@ -10,7 +10,8 @@ use Rattle.gix_object.specs.Files.{ContainsEntry}
 use Rattle.gix_object.specs.KeyOrder.{ComesBefore, entry_key}
 use Rattle.gix_object.specs.Mode.{is_tree_mode}
 use Rattle.gix_object.specs.WellFormed.{EachLater}
-use Rattle.gixobj_listings.proofs.EntryPairs.{IsAmongPairs, alike_have_equal_keys, equal_keys_are_one_pair, has_entry_if_some, pair_of_left_is_unique, pair_of_right_is_unique}
+use Rattle.gixobj_listings.proofs.EntryPairs.{IsAmongPairs, alike_have_equal_keys, equal_keys_are_one_pair, has_entry_if_some, pair_of_left_is_unique}
+use Rattle.gixobj_listings.proofs.EntryPairs.{pair_of_right_is_unique}
 use Rattle.gixobj_listings.specs.Changes.{EntryPairView, Merges, after_alone, before_alone, both, ends}
 
 abbrev pub HaveMerge : List EntryView → List EntryView → Type 0

@@ -12,8 +12,10 @@ use Rattle.gix_object.specs.Mode.{is_tree_mode}
 use Rattle.gix_object.specs.WellFormed.{EachLater}
 use Rattle.gixobj_listings.proofs.ChangesOfPairs.{StartsInPair}
 use Rattle.gixobj_listings.proofs.EntryPairs.{all_after_first_pair, comes_before_all}
-use Rattle.gixobj_listings.proofs.FileListings.{all_by_recursion_append, all_by_recursion_map, all_by_recursion_weaker, each_later_append, listed_before_of_comes_before}
-use Rattle.gixobj_listings.specs.Changes.{AreChangesInOrder, ChangeView, EntryPairView, HasName, IsAheadOf, IsPairBefore, addition, removal, sides, with_name_first}
+use Rattle.gixobj_listings.proofs.FileListings.{all_by_recursion_append, all_by_recursion_map, all_by_recursion_weaker, each_later_append}
+use Rattle.gixobj_listings.proofs.FileListings.{listed_before_of_comes_before}
+use Rattle.gixobj_listings.specs.Changes.{AreChangesInOrder, ChangeView, EntryPairView, HasName, IsAheadOf, IsPairBefore, addition, removal, sides}
+use Rattle.gixobj_listings.specs.Changes.{with_name_first}
 use Rattle.gixobj_listings.specs.Differences.{IsAtPair, IsFirstPair, pair_view}
 use Rattle.gixobj_listings.specs.FileLists.{AreInOrder, FileView, ListedBefore, has_names}
 use Rattle.gixobj_listings.specs.declared.differences.pairs.EntryPair.{EntryPair}

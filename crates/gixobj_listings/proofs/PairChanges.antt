@@ -6,8 +6,10 @@ use Rattle.gix_object.specs.Entries.{EntryView}
 use Rattle.gix_object.specs.Files.{Below, FileSet, Files, NamedFiles, Path, SameFiles, Table, is_null, resolves_to}
 use Rattle.gix_object.specs.Mode.{is_tree_mode}
 use Rattle.gix_object.specs.hash.hash.object_id.ObjectId.{ObjectId}
-use Rattle.gixobj_listings.proofs.ChangesOfPairs.{ListsChange-append, ListsChange-left, ListsChange-right, differs_at_congruent, differs_at_of_left_alone, differs_at_of_right_alone, lists_change_of_with_name, lists_change_with_name, no_change_of_same_files}
-use Rattle.gixobj_listings.specs.Changes.{AreChanges, ChangeView, DiffersAt, EntryPairView, FilesOfSide, HasName, IsChange, IsChangeOfPair, IsChangeOfPairs, ListsChange, VersionView, addition, removal, side_unless_null, with_name_first}
+use Rattle.gixobj_listings.proofs.ChangesOfPairs.{ListsChange-append, ListsChange-left, ListsChange-right, differs_at_congruent, differs_at_of_left_alone}
+use Rattle.gixobj_listings.proofs.ChangesOfPairs.{differs_at_of_right_alone, lists_change_of_with_name, lists_change_with_name, no_change_of_same_files}
+use Rattle.gixobj_listings.specs.Changes.{AreChanges, ChangeView, DiffersAt, EntryPairView, FilesOfSide, HasName, IsChange, IsChangeOfPair, IsChangeOfPairs}
+use Rattle.gixobj_listings.specs.Changes.{ListsChange, VersionView, addition, removal, side_unless_null, with_name_first}
 use Rattle.gixobj_listings.specs.FileLists.{FileView, Lists}
 
 -- ---- lists

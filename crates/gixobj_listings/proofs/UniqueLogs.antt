@@ -17,7 +17,8 @@ use Rattle.gix_object.specs.hash.kind.Kind.TheVariants.{Commit}
 use Rattle.gix_object.specs.keep.find.existing_object.Error.{Error}
 use Rattle.gix_object.specs.keep.find.existing_object.Error.TheVariants as existing
 use Rattle.gix_object.specs.store.find.Error.TheVariants as find
-use Rattle.gixobj_listings.specs.Histories.{EndAlike, FollowsFirstParents, HasFirstParent, IsAllocationFailure, IsLog, IsLogged, LoggedView, NamesAuthor, NamesCommit, NeverFails}
+use Rattle.gixobj_listings.specs.Histories.{EndAlike, FollowsFirstParents, HasFirstParent, IsAllocationFailure, IsLog, IsLogged, LoggedView, NamesAuthor}
+use Rattle.gixobj_listings.specs.Histories.{NamesCommit, NeverFails}
 use Rattle.gixobj_listings.specs.declared.history.LogEnd.{LogEnd}
 use Rattle.gixobj_listings.specs.declared.history.LogEnd.TheVariants as end
 

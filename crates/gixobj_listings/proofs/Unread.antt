@@ -1,5 +1,6 @@
 -- The directories of a tree that a store has, and the first that isn't read; used for the listing and the comparison.
-use Rattle.std.proofs.Common.{◌≡◌, ◌≢◌, ◌⊎◌, ◌+◌, ◌-◌, ◌<◌, ◌∙◌, inl, inr, ⊎_elim, ℕ, zero, suc, Bool, true, false, List, [], ◌∷◌, ◌++◌, ap, arith, get_or, length, refl, subst, sym, take, Some}
+use Rattle.std.proofs.Common.{◌≡◌, ◌≢◌, ◌⊎◌, ◌+◌, ◌-◌, ◌<◌, ◌∙◌, inl, inr, ⊎_elim, ℕ, zero, suc, Bool, true, false, List, [], ◌∷◌, ◌++◌, ap, arith, get_or}
+use Rattle.std.proofs.Common.{length, refl, subst, sym, take, Some}
 use Rattle.std.proofs.lemmas.List.{take_more}
 use Rattle.std.specs.Cmp.Lexicographic.{nat_list_cmp_total, slice_cmp}
 use Rattle.std.specs.Ordering.{nat_cmp, ordering_reverse}
@@ -23,7 +24,8 @@ use Rattle.gix_object.specs.hash.kind.Kind.TheVariants.{Tree}
 use Rattle.gixobj_listings.proofs.FileListings.{all_by_recursion_of_has, contains_entry_cases, take_or_at_or_after}
 use Rattle.gixobj_listings.proofs.Rooted.{root_there}
 use Rattle.gixobj_listings.specs.FileLists.{OpenedBefore}
-use Rattle.gixobj_listings.specs.Listings.{AreAllRead, AreReadBelow, IsDirectory, IsErrorWithin, IsFirstUnread, IsListError, IsListErrorAt, IsRead, IsUnread, IsUnreadError, LeadsToDirectory}
+use Rattle.gixobj_listings.specs.Listings.{AreAllRead, AreReadBelow, IsDirectory, IsErrorWithin, IsFirstUnread, IsListError, IsListErrorAt, IsRead, IsUnread}
+use Rattle.gixobj_listings.specs.Listings.{IsUnreadError, LeadsToDirectory}
 use Rattle.gixobj_listings.specs.Roots.{IsRoot}
 use Rattle.gixobj_listings.specs.declared.listing.ListError.{ListError}
 use Rattle.gixobj_listings.specs.declared.listing.ListError.TheVariants as list

@@ -1,12 +1,15 @@
 //! The changes between the files of two stored trees (git-diff-tree, `-r`).
-ghost use Rattle.std.specs.Prelude.{◌≡◌, ◌≢◌, ◌∷◌, ◌++◌, [], IfErr, IfOk, IsFalse, IsTrue, None, OnErr, OnOk, Some, map, true};
+ghost use Rattle.std.specs.Prelude.{◌≡◌, ◌≢◌, ◌∷◌, ◌++◌, [], IfErr, IfOk, IsFalse, IsTrue, None, OnErr, OnOk, Some};
+ghost use Rattle.std.specs.Prelude.{map, true};
 ghost use Rattle.std.specs.List.{AllByRecursion};
 ghost use Rattle.std.specs.Option.{option_copied};
 ghost use Rattle.bstr.specs.Owned.{bstring_bytes};
 ghost use Rattle.gix_object.specs.Files.{is_null};
 ghost use Rattle.gix_object.specs.Mode.{mode_bits};
-ghost use Rattle.gixobj_listings.specs.Changes.{AreChangesInOrder, HasName, addition, removal, side_unless_null, with_name_first};
-ghost use Rattle.gixobj_listings.specs.Differences.{IsReadIfAlone, HasChanges, HasChangesAt, IsAtPair, IsChangesError, IsChangesErrorAt, IsTreeInError, pair_view};
+ghost use Rattle.gixobj_listings.specs.Changes.{AreChangesInOrder, HasName, addition, removal, side_unless_null};
+ghost use Rattle.gixobj_listings.specs.Changes.{with_name_first};
+ghost use Rattle.gixobj_listings.specs.Differences.{IsReadIfAlone, HasChanges, HasChangesAt, IsAtPair, IsChangesError};
+ghost use Rattle.gixobj_listings.specs.Differences.{IsChangesErrorAt, IsTreeInError, pair_view};
 ghost use Rattle.gixobj_listings.specs.FileLists.{has_names};
 ghost use Rattle.gixobj_listings.specs.Listings.{IsRead};
 ghost use Rattle.gixobj_listings.specs.Roots.{IsRoot};

@@ -7,7 +7,8 @@ ghost use Rattle.gix_object.specs.Entries.{EntryView};
 ghost use Rattle.gix_object.specs.Files.{is_null};
 ghost use Rattle.gixobj_listings.specs.FileLists.{AreInOrder, IsBounded, with_first_name};
 ghost use Rattle.gixobj_listings.specs.Roots.{IsRoot};
-ghost use Rattle.gixobj_listings.specs.Listings.{AreAllRead, AreReadBelow, HasFilesAt, HasFilesOf, HasFilesOfEntries, IsAtEntry, IsErrorWithin, IsListError, IsListErrorAt, IsUnread};
+ghost use Rattle.gixobj_listings.specs.Listings.{AreAllRead, AreReadBelow, HasFilesAt, HasFilesOf, HasFilesOfEntries};
+ghost use Rattle.gixobj_listings.specs.Listings.{IsAtEntry, IsErrorWithin, IsListError, IsListErrorAt, IsUnread};
 
 use crate::roots::{RootError, root_in};
 use bstr::BString;

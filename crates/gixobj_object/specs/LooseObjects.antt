@@ -12,7 +12,8 @@ use Rattle.gixobj_hash.specs.declared.kind.Kind.{Kind}
 use Rattle.gixobj_object.specs.ObjectReading.{DecodesToObject, IsObjectDecodeError}
 use Rattle.gixobj_object.specs.declared.object.borrowed.ObjectRef.{ObjectRef}
 use Rattle.gixobj_object.specs.declared.object.borrowed.decode.LooseDecodeError.{LooseDecodeError}
-use Rattle.gixobj_object.specs.declared.object.borrowed.decode.LooseDecodeError.TheVariants.{InvalidContent, InvalidHeader, OutOfMemory}
+use Rattle.gixobj_object.specs.declared.object.borrowed.decode.LooseDecodeError.TheVariants.{InvalidContent}
+use Rattle.gixobj_object.specs.declared.object.borrowed.decode.LooseDecodeError.TheVariants.{InvalidHeader, OutOfMemory}
 
 -- the size in the header is 2^64 or more, which no header states
 abbrev pub IsTooLarge : List ℕ → ℕ → Type 0

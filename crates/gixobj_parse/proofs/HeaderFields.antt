@@ -1,5 +1,6 @@
 -- Header fields are made of their parts and decode uniquely; used by the proofs of `parse` and of commits and tags.
-use Rattle.std.proofs.Common.{◌≡◌, ◌≢◌, ◌+◌, ◌*◌, ◌<◌, ℕ, List, [], ◌∷◌, ◌++◌, All, drop-cons, get_or, suc, length, arith, inl, inr, refl, sym, ap, subst, ◌∙◌, append_assoc, length-append, Contains, lit<}
+use Rattle.std.proofs.Common.{◌≡◌, ◌≢◌, ◌+◌, ◌*◌, ◌<◌, ℕ, List, [], ◌∷◌, ◌++◌, All, drop-cons, get_or, suc, length, arith, inl, inr, refl, sym, ap, subst, ◌∙◌}
+use Rattle.std.proofs.Common.{append_assoc, length-append, Contains, lit<}
 use Rattle.std.proofs.Math.Seq.{get_or-append_seam, take-append_seam}
 use Rattle.std.proofs.lemmas.List.{append_cancel_left, append-nil, take-append-drop}
 use Rattle.std.proofs.lemmas.List.Concat.{flat_map-append}
@@ -13,7 +14,8 @@ use Rattle.std.specs.List.{AllPass, flat_map}
 use Rattle.std.specs.Prelude.{true, false, MatchOption, Option, nat_eq, take, drop}
 use Rattle.hex.specs.Hex.{is_hex_digit}
 use Rattle.gixobj_hash.proofs.Splits.{no_split_of_byte_free, split_parts_unique}
-use Rattle.gixobj_hash.specs.HeaderFormat.{BeginsWithSeveralLines, EndsHeader, BeginsWithField, BeginsWithHeader, BeginsWithNoField, BeginsWithNoHeader, Header, IsHeaderName, encode_continuation, value_of_lines}
+use Rattle.gixobj_hash.specs.HeaderFormat.{BeginsWithSeveralLines, EndsHeader, BeginsWithField, BeginsWithHeader, BeginsWithNoField, BeginsWithNoHeader, Header}
+use Rattle.gixobj_hash.specs.HeaderFormat.{IsHeaderName, encode_continuation, value_of_lines}
 use Rattle.gixobj_hash.specs.FieldFormat.{encode_field, encode_line}
 use Rattle.gixobj_parse.specs.HeaderReading.{BeginsWithNoIdField, BeginsWithNoKindField, BeginsWithNoContinuations, IsUnfolded, IsHeaderFieldError}
 use Rattle.gixobj_hash.specs.ByteStrings.{IsByteFree, SplitsAt}

@@ -1,6 +1,7 @@
 -- The last marker is at the last prefix of all markers that begins a line and names a format; the search `find` uses
 -- these lemmas.
-use Rattle.std.proofs.Common.{◌≡◌, ◌≢◌, ◌≤◌, ◌<◌, ◌+◌, ◌-◌, ℕ, List, [], ◌∷◌, ◌++◌, append_assoc, ap, arith, drop, get_or, inl, inr, length, length-append, refl, subst, suc, sym, take, ◌∙◌}
+use Rattle.std.proofs.Common.{◌≡◌, ◌≢◌, ◌≤◌, ◌<◌, ◌+◌, ◌-◌, ℕ, List, [], ◌∷◌, ◌++◌, append_assoc, ap, arith, drop, get_or, inl, inr, length, length-append}
+use Rattle.std.proofs.Common.{refl, subst, suc, sym, take, ◌∙◌}
 use Rattle.std.proofs.lemmas.List.{get_or-append-add, get_or_append_left, get_or-take, length-take-le, take-append-drop, take_more, take_rest}
 use Rattle.std.proofs.lemmas.List.Elements.{All-get_or}
 use Rattle.std.specs.Prelude.{Some, None, codes}
@@ -8,7 +9,8 @@ use Rattle.bstr.specs.Find.{OccursAt}
 use Rattle.gixobj_hash.proofs.Splits.{byte_free_of_all_pass}
 use Rattle.gixobj_parse.proofs.MarkerPlaces.{begins_with_marker_at_position}
 use Rattle.gixobj_parse.specs.LineWalk.{HasMarkerPrefixesBefore, IsLastMarkerPrefix, marker_prefix}
-use Rattle.gixobj_parse.specs.Markers.{BeginsWithMarker, BeginsWithNoMarker, HasNoMarker, IsMarkerOf, IsMarkerPlace, HasMarkerAt, StartsLine, pgp_message, pgp_signature, signed_message, ssh_signature}
+use Rattle.gixobj_parse.specs.Markers.{BeginsWithMarker, BeginsWithNoMarker, HasNoMarker, IsMarkerOf, IsMarkerPlace, HasMarkerAt, StartsLine, pgp_message}
+use Rattle.gixobj_parse.specs.Markers.{pgp_signature, signed_message, ssh_signature}
 use Rattle.gixobj_parse.specs.declared.signature.Format.{Format}
 
 -- ---- a marker after a newline has its prefix

@@ -3,7 +3,8 @@ use Rattle.std.proofs.Common.{◌≡◌, ◌≢◌, ◌≤◌, ℕ, List, [], �
 use Rattle.std.proofs.lemmas.List.Elements.{All-nil, All-push}
 use Rattle.std.specs.Prelude.{Some, None, Result, Ok, Err}
 use Rattle.gixobj_hash.proofs.Runs.{begins_with_pieces_snoc, yields_of_begins_with_pieces}
-use Rattle.gixobj_parse.specs.Iterators.{IsOptionalSearchError, FindsFirst, IsRequiredSearchError, NextPiece, YieldsNone, BeginsWithOtherPieces, ReadsFirst, ReadsNone, ReaderState}
+use Rattle.gixobj_parse.specs.Iterators.{IsOptionalSearchError, FindsFirst, IsRequiredSearchError, NextPiece, YieldsNone, BeginsWithOtherPieces, ReadsFirst}
+use Rattle.gixobj_parse.specs.Iterators.{ReadsNone, ReaderState}
 use Rattle.gixobj_hash.specs.Runs.{IsPieceError, Yields, broken, complete, yields_end, yields_error}
 use Rattle.gixobj_hash.specs.declared.decode.Error.{Error}
 use Rattle.gixobj_hash.specs.declared.decode.Error.TheVariants.{Malformed, OutOfMemory}

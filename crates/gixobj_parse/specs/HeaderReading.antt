@@ -9,7 +9,8 @@ use Rattle.bstr.specs.BStr.{bstr_bytes}
 use Rattle.bstr.specs.Owned.{bstring_bytes}
 use Rattle.bstr.specs.declared.bstr.BStr.{BStr}
 use Rattle.bstr.specs.declared.bstring.BString.{BString}
-use Rattle.gixobj_hash.specs.HeaderFormat.{BeginsWithSeveralLines, EndsHeader, BeginsWithField, BeginsWithNoHeader, Header, encode_continuation}
+use Rattle.gixobj_hash.specs.HeaderFormat.{BeginsWithSeveralLines, EndsHeader, BeginsWithField, BeginsWithNoHeader}
+use Rattle.gixobj_hash.specs.HeaderFormat.{Header, encode_continuation}
 use Rattle.gixobj_hash.specs.FieldFormat.{encode_line}
 use Rattle.gixobj_hash.specs.ByteStrings.{IsByteFree}
 use Rattle.gixobj_hash.specs.Hash.Hex.{IsIdHexOfKind}

@@ -1,8 +1,12 @@
 //! Decoding of header fields (gitdatamodel, "commits"; gitformat-signature, "Commit signatures").
-ghost use Rattle.std.specs.Prelude.{◌≡◌, ◌≢◌, ◌++◌, ◌∷◌, [], ℕ, List, IfErr, IfOk, IfSome, IfNone, MatchBool, MatchOption, length, slice_index};
+ghost use Rattle.std.specs.Prelude.{◌≡◌, ◌≢◌, ◌++◌, ◌∷◌, [], ℕ, List, IfErr, IfOk, IfSome, IfNone, MatchBool};
+ghost use Rattle.std.specs.Prelude.{MatchOption, length, slice_index};
 ghost use Rattle.bstr.specs.BStr.{bstr_bytes};
-ghost use Rattle.gixobj_parse.specs.HeaderReading.{BorrowsOneLine, BeginsWithIdField, BeginsWithNoIdField, BeginsWithNoKindField, BeginsWithNoContinuations, IsUnfolded, IsHeaderFieldError, header_of};
-ghost use Rattle.gixobj_hash.specs.HeaderFormat.{EndsHeader, BeginsWithField, BeginsWithHeader, BeginsWithNoField, IsHeaderName, BeginsWithOtherName};
+ghost use Rattle.gixobj_parse.specs.HeaderReading.{BorrowsOneLine, BeginsWithIdField, BeginsWithNoIdField};
+ghost use Rattle.gixobj_parse.specs.HeaderReading.{BeginsWithNoKindField, BeginsWithNoContinuations, IsUnfolded};
+ghost use Rattle.gixobj_parse.specs.HeaderReading.{IsHeaderFieldError, header_of};
+ghost use Rattle.gixobj_hash.specs.HeaderFormat.{EndsHeader, BeginsWithField, BeginsWithHeader, BeginsWithNoField};
+ghost use Rattle.gixobj_hash.specs.HeaderFormat.{IsHeaderName, BeginsWithOtherName};
 ghost use Rattle.gixobj_hash.specs.ByteStrings.{IsByteFree};
 ghost use Rattle.gixobj_hash.specs.declared.decode.Error.TheVariants.{Malformed};
 ghost use Rattle.gixobj_hash.specs.Kind.{kind_name};

@@ -5,7 +5,8 @@ use Rattle.gixobj_hash.specs.ByteStrings.{IsByteFree, SplitsAt}
 use Rattle.gixobj_hash.specs.declared.hash.object_id.ObjectId.{ObjectId}
 use Rattle.gixobj_hash.specs.declared.kind.Kind.{Kind}
 use Rattle.gixobj_records.specs.Headers.{IsHeader, encode_header}
-use Rattle.gixobj_records.specs.Records.{BeginsWithRecord, BeginsWithRecords, DecodesToRecords, HasRecordFault, IsBatchError, IsHeaderOfSize, IsShort, LacksNewline, RecordView, encode_content, header_of, missing, object}
+use Rattle.gixobj_records.specs.Records.{BeginsWithRecord, BeginsWithRecords, DecodesToRecords, HasRecordFault, IsBatchError, IsHeaderOfSize, IsShort}
+use Rattle.gixobj_records.specs.Records.{LacksNewline, RecordView, encode_content, header_of, missing, object}
 use Rattle.gixobj_records.specs.declared.header.Header.TheVariants as header
 use Rattle.gixobj_records.specs.declared.records.BatchError.TheVariants as batch
 use Rattle.gixobj_records.specs.declared.records.RecordFault.{RecordFault}

@@ -14,7 +14,9 @@ use Rattle.gixobj_records.specs.declared.header.Header.{Header}
 use Rattle.gixobj_records.specs.declared.header.Header.TheVariants as header
 use Rattle.gixobj_records.specs.declared.header.HeaderFault.{HeaderFault}
 use Rattle.gixobj_records.specs.declared.header.HeaderFault.TheVariants as fault
-use Rattle.gixobj_records.proofs.Fields.{byte_free_append, byte_free_cons, decimal_is_newline_free, encode_id_hex_injective, id_hex_is_newline_free, id_hex_is_space_free, kind_name_is_newline_free, kind_name_is_space_free, missing_is_newline_free, missing_is_space_free}
+use Rattle.gixobj_records.proofs.Fields.{byte_free_append, byte_free_cons, decimal_is_newline_free, encode_id_hex_injective, id_hex_is_newline_free}
+use Rattle.gixobj_records.proofs.Fields.{id_hex_is_space_free, kind_name_is_newline_free, kind_name_is_space_free, missing_is_newline_free}
+use Rattle.gixobj_records.proofs.Fields.{missing_is_space_free}
 
 space_ne_newline : (let byte : ℕ = 32 in byte ≢ 10)
 space_ne_newline same = omega (arith, same)

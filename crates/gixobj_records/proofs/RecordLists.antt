@@ -6,7 +6,8 @@ use Rattle.gixobj_hash.proofs.Splits.{split_parts_unique}
 use Rattle.gixobj_hash.specs.declared.hash.object_id.ObjectId.{ObjectId}
 use Rattle.gixobj_hash.specs.declared.kind.Kind.{Kind}
 use Rattle.gixobj_records.specs.Headers.{encode_header}
-use Rattle.gixobj_records.specs.Records.{BeginsWithRecord, BeginsWithRecords, DecodesToRecords, RecordView, encode_content, encode_record, header_of, missing, object, record_view}
+use Rattle.gixobj_records.specs.Records.{BeginsWithRecord, BeginsWithRecords, DecodesToRecords, RecordView, encode_content, encode_record, header_of, missing}
+use Rattle.gixobj_records.specs.Records.{object, record_view}
 use Rattle.gixobj_records.specs.declared.header.Header.TheVariants as header
 use Rattle.gixobj_records.specs.declared.records.Record.{Record}
 use Rattle.gixobj_records.proofs.Headers.{encode_header_injective, header_is_newline_free}

@@ -1,5 +1,6 @@
 //! The header of a record: the id, the kind and the size of an object, or the id of a missing one.
-ghost use Rattle.std.specs.Prelude.{◌≡◌, ◌≢◌, ◌↔◌, ◌∷◌, ◌<◌, ◌^◌, ◌++◌, ℕ, List, IfErr, IfNone, IfOk, IfSome, IsTrue, decimal};
+ghost use Rattle.std.specs.Prelude.{◌≡◌, ◌≢◌, ◌↔◌, ◌∷◌, ◌<◌, ◌^◌, ◌++◌, ℕ, List, IfErr, IfNone, IfOk, IfSome, IsTrue};
+ghost use Rattle.std.specs.Prelude.{decimal};
 ghost use Rattle.hex.specs.Hex.{IsBytes};
 ghost use Rattle.gixobj_hash.specs.Bytes.{space};
 ghost use Rattle.gixobj_hash.specs.Hash.{IsId, encode_id_hex};

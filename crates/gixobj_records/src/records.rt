@@ -1,7 +1,8 @@
 //! Records of objects, one after the other.
 ghost use Rattle.std.specs.Prelude.{◌≡◌, ◌∷◌, ◌++◌, IfErr, IfOk, length, map};
 ghost use Rattle.gixobj_hash.specs.Bytes.{newline};
-ghost use Rattle.gixobj_records.specs.Records.{BeginsWithRecord, DecodesToRecords, HasContentFault, HasRecordFault, IsBatchError, record_view};
+ghost use Rattle.gixobj_records.specs.Records.{BeginsWithRecord, DecodesToRecords, HasContentFault, HasRecordFault};
+ghost use Rattle.gixobj_records.specs.Records.{IsBatchError, record_view};
 ghost use Rattle.gixobj_records.specs.declared.records.BatchError.TheVariants as batch;
 ghost use Rattle.gixobj_records.specs.declared.records.RecordFault.TheVariants as fault;
 

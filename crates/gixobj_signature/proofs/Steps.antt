@@ -1,5 +1,6 @@
 -- Lemmas on the plan that remains after each answer, for the proofs of `verify_ssh` and its loop over the principals.
-use Rattle.std.proofs.Common.{◌≡◌, inl, inr, subst, sym, map, drop, get_or, length, suc, ◌+◌, ◌<◌, ◌≤◌, ◌∙◌, ap, add-one, Bool, true, false, cond, List, [], ◌∷◌, ℕ, Option, Some, None, refl}
+use Rattle.std.proofs.Common.{◌≡◌, inl, inr, subst, sym, map, drop, get_or, length, suc, ◌+◌, ◌<◌, ◌≤◌, ◌∙◌, ap, add-one, Bool, true, false, cond, List, []}
+use Rattle.std.proofs.Common.{◌∷◌, ℕ, Option, Some, None, refl}
 use Rattle.std.proofs.lemmas.List.{drop_all}
 use Rattle.std.proofs.Math.Seq.{drop-cons}
 use Rattle.bstr.specs.Owned.{bstring_bytes}

@@ -1,5 +1,6 @@
 -- The calls of programs that sign, and the outcomes of their answers.
-use Rattle.std.specs.Prelude.{◌≡◌, ℕ, Bool, false, List, [], ◌∷◌, ◌++◌, Option, Some, None, Result, Ok, Err, if◌then◌else◌, codes, map, nat_eq, ◌&&◌, ◌==◌}
+use Rattle.std.specs.Prelude.{◌≡◌, ℕ, Bool, false, List, [], ◌∷◌, ◌++◌, Option, Some, None, Result, Ok, Err}
+use Rattle.std.specs.Prelude.{if◌then◌else◌, codes, map, nat_eq, ◌&&◌, ◌==◌}
 use Rattle.std.specs.List.{list_any, starts_with}
 use Rattle.bstr.specs.Owned.{bstring_bytes}
 use Rattle.bstr.specs.Text.{lines_of, without_terminator}
@@ -10,7 +11,8 @@ use Rattle.gixobj_hash.specs.Bytes.{carriage_return, newline}
 use Rattle.gixobj_signature_reports.specs.Fields.{after_prefix, either}
 use Rattle.gixobj_parse.specs.declared.signature.Format.{Format}
 use Rattle.gixobj_parse.specs.declared.signature.Format.TheVariants as format
-use Rattle.gixobj_signature_reports.specs.Calls.{Answer, CallView, Failure, OutputView, WordView, failed, file, no_file, no_memory, no_time, not_spawned, not_reported, pair_view, ran, plain}
+use Rattle.gixobj_signature_reports.specs.Calls.{Answer, CallView, Failure, OutputView, WordView, failed, file, no_file}
+use Rattle.gixobj_signature_reports.specs.Calls.{no_memory, no_time, not_spawned, not_reported, pair_view, ran, plain}
 use Rattle.gixobj_signature_reports.specs.Pieces.{git_arguments}
 use Rattle.gixobj_signature.specs.Plans.{IsCarriedOut, Plan, run_then, done, no_more}
 use Rattle.gixobj_signature.specs.declared.signature.sign.Options.{Options}

@@ -1,5 +1,6 @@
 -- The plans of verification, and the outcomes of their answers.
-use Rattle.std.specs.Prelude.{ℕ, Bool, false, List, [], ◌∷◌, ◌++◌, Option, Some, None, Result, Ok, Err, if◌then◌else◌, codes, filter, map, nat_eq, ◌&&◌}
+use Rattle.std.specs.Prelude.{ℕ, Bool, false, List, [], ◌∷◌, ◌++◌, Option, Some, None, Result, Ok, Err, if◌then◌else◌}
+use Rattle.std.specs.Prelude.{codes, filter, map, nat_eq, ◌&&◌}
 use Rattle.std.specs.List.{starts_with}
 use Rattle.std.specs.Str.{encode_utf8_all}
 use Rattle.bstr.specs.BStr.{bstr_bytes}
@@ -7,7 +8,8 @@ use Rattle.bstr.specs.Owned.{bstring_bytes}
 use Rattle.bstr.specs.Text.{lines_of, without_terminator}
 use Rattle.bstr.specs.Utf8.{lossy_chars}
 use Rattle.bstr.specs.declared.bstr.BStr.{BStr}
-use Rattle.gixobj_signature_reports.specs.Calls.{Answer, CallView, Failure, OutputView, failed, no_file, no_memory, no_time, not_spawned, not_reported, output_view, ran}
+use Rattle.gixobj_signature_reports.specs.Calls.{Answer, CallView, Failure, OutputView, failed, no_file, no_memory}
+use Rattle.gixobj_signature_reports.specs.Calls.{no_time, not_spawned, not_reported, output_view, ran}
 use Rattle.gixobj_signature_reports.specs.GpgReports.{gpg_report}
 use Rattle.gixobj_signature_reports.specs.Outcomes.{OutcomeView, evaluated, outcome_view}
 use Rattle.gixobj_signature.specs.Plans.{IsCarriedOut, Plan, AllocatesForCalls, run_then, done, no_more}
@@ -22,8 +24,10 @@ use Rattle.gixobj_parse.specs.Markers.{BeginsWithMarker, BeginsWithNoMarker}
 use Rattle.gixobj_parse.specs.declared.signature.Format.{Format}
 use Rattle.gixobj_parse.specs.declared.signature.Format.TheVariants as format
 use Rattle.gixobj_signature.specs.SignedBytes.{signed_bytes}
-use Rattle.gixobj_signature.specs.Verifiers.{VerifyOptionsView, ProgramView, SshView, by_open_pgp, by_ssh, by_x509, verify_options_view}
-use Rattle.gixobj_signature.specs.VerifyingCalls.{novalidate_call, open_pgp_call, principal_call, principals_call, x509_call}
+use Rattle.gixobj_signature.specs.Verifiers.{VerifyOptionsView, ProgramView, SshView, by_open_pgp, by_ssh, by_x509}
+use Rattle.gixobj_signature.specs.Verifiers.{verify_options_view}
+use Rattle.gixobj_signature.specs.VerifyingCalls.{novalidate_call, open_pgp_call, principal_call, principals_call}
+use Rattle.gixobj_signature.specs.VerifyingCalls.{x509_call}
 use Rattle.gixobj_signature.specs.declared.signature.signed_data.SignedData.{SignedData}
 use Rattle.gixobj_signature.specs.declared.signature.verify.Error.{Error}
 use Rattle.gixobj_signature.specs.declared.signature.verify.Error.TheVariants as verify

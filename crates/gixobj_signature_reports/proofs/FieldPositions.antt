@@ -1,6 +1,7 @@
 -- The field with a number begins after that number of spaces and ends before the next one; the functions of `gpg` use
 -- these lemmas.
-use Rattle.std.proofs.Common.{◌≡◌, ◌≢◌, ◌∷◌, ◌++◌, ◌==◌, ◌∙◌, ◌<◌, ◌≤◌, ◌-◌, arith, [], ap, sym, true, false, cond, length, zero, suc, ℕ, Bool, List, Option, Some, None, refl}
+use Rattle.std.proofs.Common.{◌≡◌, ◌≢◌, ◌∷◌, ◌++◌, ◌==◌, ◌∙◌, ◌<◌, ◌≤◌, ◌-◌, arith, [], ap, sym, true, false, cond, length, zero, suc, ℕ, Bool, List, Option}
+use Rattle.std.proofs.Common.{Some, None, refl}
 use Rattle.std.proofs.lemmas.Bool.{eqb-true}
 use Rattle.std.proofs.lemmas.List.Elements.{All-head, All-tail}
 use Rattle.std.specs.Option.{option_map}

@@ -1,5 +1,6 @@
 -- The first byte of a status line selects its keywords; `status_of_line` and `valid_here` use these lemmas.
-use Rattle.std.proofs.Common.{◌≡◌, ◌≢◌, ◌∷◌, ◌∙◌, ◌&&◌, [], ap, cond, drop, length, nat_eq, sym, take, codes, Bool, true, false, List, ℕ, Option, Some, None, refl}
+use Rattle.std.proofs.Common.{◌≡◌, ◌≢◌, ◌∷◌, ◌∙◌, ◌&&◌, [], ap, cond, drop, length, nat_eq, sym, take, codes, Bool, true, false, List, ℕ, Option, Some, None}
+use Rattle.std.proofs.Common.{refl}
 use Rattle.std.proofs.lemmas.Bool.{eqb-true}
 use Rattle.std.specs.Cmp.Lexicographic.{pointwise}
 use Rattle.std.specs.Option.{option_map}

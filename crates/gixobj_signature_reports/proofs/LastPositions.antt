@@ -1,5 +1,6 @@
 -- The bytes after the last ` key ` of a line, found by a backward search, space by space: for `after_last_key`.
-use Rattle.std.proofs.Common.{◌≡◌, ◌≢◌, ◌∷◌, ◌++◌, ◌∙◌, ◌<◌, ◌≤◌, ◌&&◌, arith, [], ap, codes, cond, drop, length, length-append, nat_eq, sym, take, append_assoc, suc, zero, ℕ, Bool, true, false, List, Some, None, refl}
+use Rattle.std.proofs.Common.{◌≡◌, ◌≢◌, ◌∷◌, ◌++◌, ◌∙◌, ◌<◌, ◌≤◌, ◌&&◌, arith, [], ap, codes, cond, drop, length, length-append, nat_eq, sym, take}
+use Rattle.std.proofs.Common.{append_assoc, suc, zero, ℕ, Bool, true, false, List, Some, None, refl}
 use Rattle.std.proofs.lemmas.Bool.{eqb-true}
 use Rattle.std.proofs.lemmas.List.Elements.{All-head, All-tail}
 use Rattle.std.specs.Cmp.Lexicographic.{pointwise}

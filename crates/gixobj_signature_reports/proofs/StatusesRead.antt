@@ -4,7 +4,8 @@ use Rattle.std.specs.List.{cons_option, filter_map}
 use Rattle.bstr.specs.Text.{lines_of, without_terminator}
 use Rattle.gixobj_signature_reports.specs.Fields.{after_prefix, either, last_of}
 use Rattle.gixobj_signature_reports.specs.GpgReports.{Verdict, reported_fields, status_of, status_lines, trust_in, reported_trust, valid_fields}
-use Rattle.gixobj_signature_reports.specs.StatusLines.{HasOneMore, after_status_prefix, reported_after, status_from, statuses_in, status_after, line_status, verdict_of}
+use Rattle.gixobj_signature_reports.specs.StatusLines.{HasOneMore, after_status_prefix, reported_after, status_from, statuses_in, status_after, line_status}
+use Rattle.gixobj_signature_reports.specs.StatusLines.{verdict_of}
 use Rattle.gixobj_signature_reports.specs.declared.report.gpg.Statuses.{Statuses}
 
 -- a list of at least one item has a last one, whatever precedes it

@@ -1,5 +1,6 @@
 -- The bytes after a prefix of a status line, and the fields that single spaces separate.
-use Rattle.std.specs.Prelude.{ℕ, List, [], ◌∷◌, Option, Some, None, if◌then◌else◌, drop, length, nat_eq, slice_get, ◌==◌}
+use Rattle.std.specs.Prelude.{ℕ, List, [], ◌∷◌, Option, Some, None, if◌then◌else◌, drop, length, nat_eq, slice_get}
+use Rattle.std.specs.Prelude.{◌==◌}
 use Rattle.std.specs.List.{starts_with}
 use Rattle.gixobj_hash.specs.Bytes.{space}
 

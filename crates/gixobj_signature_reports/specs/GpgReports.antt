@@ -4,7 +4,8 @@ use Rattle.std.specs.List.{filter_map}
 use Rattle.std.specs.Option.{option_map}
 use Rattle.bstr.specs.Text.{lines_of, without_terminator}
 use Rattle.gixobj_parse.specs.declared.signature.Format.{Format}
-use Rattle.gixobj_signature_reports.specs.Fields.{after_prefix, after_space, either, field_at, fields_of, first_token, last_of, unless_empty}
+use Rattle.gixobj_signature_reports.specs.Fields.{after_prefix, after_space, either, field_at, fields_of, first_token}
+use Rattle.gixobj_signature_reports.specs.Fields.{last_of, unless_empty}
 use Rattle.gixobj_signature_reports.specs.Outcomes.{OutcomeView}
 use Rattle.gixobj_signature_reports.specs.Trust.{or_undefined, trust_of}
 use Rattle.gixobj_signature_reports.specs.declared.report.Status.{Status}

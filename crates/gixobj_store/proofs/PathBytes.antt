@@ -4,7 +4,8 @@ use Rattle.std.proofs.Math.Dec.{eqb-suc-zero}
 use Rattle.std.proofs.lemmas.List.{nil_from_length}
 use Rattle.std.proofs.lemmas.List.Elements.{All-nil}
 use Rattle.std.specs.Prelude.{MatchBool}
-use Rattle.gixobj_hash.proofs.SplitsAtEach.{is_split_at_each_append, are_prefixes_nil, are_prefixes_snoc, is_split_at_each_of_byte_free, split_at_each_unique, split_at_each_exists}
+use Rattle.gixobj_hash.proofs.SplitsAtEach.{is_split_at_each_append, are_prefixes_nil, are_prefixes_snoc, is_split_at_each_of_byte_free, split_at_each_unique}
+use Rattle.gixobj_hash.proofs.SplitsAtEach.{split_at_each_exists}
 use Rattle.gixobj_hash.specs.Bytes.{slash}
 use Rattle.gixobj_hash.specs.Splits.{IsSplitAtEach}
 use Rattle.gixobj_hash.specs.ByteStrings.{IsByteFree, SplitsAt}

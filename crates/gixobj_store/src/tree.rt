@@ -1,6 +1,7 @@
 //! Iteration over the entries of an encoded tree (gitdatamodel, "trees").
 ghost use Rattle.std.specs.Prelude.{◌≡◌, ◌-◌, [], IfErr, IfOk, length, map};
-ghost use Rattle.gixobj_store.specs.EntrySteps.{NextEntry, IsAtEntry, IsTail, remaining_tree_bytes, remaining_entry_count};
+ghost use Rattle.gixobj_store.specs.EntrySteps.{NextEntry, IsAtEntry, IsTail, remaining_tree_bytes};
+ghost use Rattle.gixobj_store.specs.EntrySteps.{remaining_entry_count};
 ghost use Rattle.gixobj_tree_entries.specs.TreeDecoding.{DecodesToTree, IsTreeDecodeError};
 ghost use Rattle.gixobj_tree_entries.specs.EntryViews.{entry_view};
 

@@ -3,7 +3,8 @@ ghost use Rattle.std.specs.Prelude.{◌≡◌, ◌≢◌, IfErr, IfOk, MatchBool
 ghost use Rattle.gixobj_hash.specs.Hash.Borrowed.{borrowed_id};
 ghost use Rattle.gixobj_hash.specs.declared.decode.Error.TheVariants.{Malformed};
 ghost use Rattle.gixobj_hash.specs.declared.kind.Kind.TheVariants as object;
-ghost use Rattle.gixobj_store_keep.specs.ExistingTrees.{IsStoredContentError, IsEncodingOf, IsExistingTreeError, NamesSuch};
+ghost use Rattle.gixobj_store_keep.specs.ExistingTrees.{IsStoredContentError, IsEncodingOf, IsExistingTreeError};
+ghost use Rattle.gixobj_store_keep.specs.ExistingTrees.{NamesSuch};
 ghost use Rattle.gixobj_tree_entries.specs.TreeDecoding.{DecodesToTree};
 ghost use Rattle.gixobj_tree.specs.TreeViews.{tree_entries};
 

@@ -2,7 +2,8 @@
 
 ghost use Rattle.std.specs.Prelude.{◌≡◌, All, IfErr, OnErr, OnOk};
 ghost use Rattle.gixobj_hash.specs.declared.hash.object_id.ObjectId.{ObjectId};
-ghost use Rattle.gixobj_store_keep.specs.Keeping.{IsStoreErrorAt, IsKeepError, IsKeepCommitError, StopsKeepingAt, with_commit, with_tree, with_trees};
+ghost use Rattle.gixobj_store_keep.specs.Keeping.{IsStoreErrorAt, IsKeepError, IsKeepCommitError, StopsKeepingAt};
+ghost use Rattle.gixobj_store_keep.specs.Keeping.{with_commit, with_tree, with_trees};
 ghost use Rattle.gixobj_tree.specs.TreeEncoding.{IsEncodableTree};
 
 use bstr::BString;

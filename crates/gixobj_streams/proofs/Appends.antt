@@ -1,6 +1,7 @@
 -- Appends to a sink in several steps are one append, entire or of a proper prefix; used by the proofs of fields,
 -- actors, commits, tags and trees.
-use Rattle.std.proofs.Common.{◌≡◌, ◌⊎◌, inl, inr, ◌==◌, true, false, refl, ◌-◌, ◌<◌, ◌≤◌, ℕ, take, drop, List, [], ◌++◌, Option, Some, None, ◌∷◌, Result, Ok, Err, append_assoc, arith, length, length-append, sym, ap, ◌∙◌}
+use Rattle.std.proofs.Common.{◌≡◌, ◌⊎◌, inl, inr, ◌==◌, true, false, refl, ◌-◌, ◌<◌, ◌≤◌, ℕ, take, drop, List, [], ◌++◌, Option, Some, None, ◌∷◌, Result, Ok}
+use Rattle.std.proofs.Common.{Err, append_assoc, arith, length, length-append, sym, ap, ◌∙◌}
 use Rattle.std.proofs.lemmas.Bool.{eqb-true}
 use Rattle.std.proofs.lemmas.List.{append-nil, length-drop, take-append-drop, take_all}
 use Rattle.std.proofs.KnownBytes.{Appends-kept}

@@ -1,5 +1,6 @@
 -- The bytes that sinks hold and accept.
-use Rattle.std.specs.Prelude.{◌≡◌, ◌<◌, ◌≤◌, ◌+◌, ◌-◌, ◌++◌, ℕ, IfSome, List, [], MatchResult, None, Option, Result, Some, length, vec_capacity, vec_len}
+use Rattle.std.specs.Prelude.{◌≡◌, ◌<◌, ◌≤◌, ◌+◌, ◌-◌, ◌++◌, ℕ, IfSome, List, [], MatchResult, None, Option, Result}
+use Rattle.std.specs.Prelude.{Some, length, vec_capacity, vec_len}
 use Rattle.std.specs.Io.KnownBytes.{Appends}
 use Rattle.std.specs.IoError.{error_kind}
 use Rattle.std.specs.declared.alloc.Global.{Global}

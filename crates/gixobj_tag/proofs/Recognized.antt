@@ -1,6 +1,7 @@
 -- Bytes are the encoding of a tag if and only if some tag decodes from them: any bytes split at their last marker.
 -- The law `tag_recognition_agrees` and the lookups of tags use it.
-use Rattle.std.proofs.Common.{◌≡◌, ◌≢◌, ◌⊎◌, ◌<◌, ◌≤◌, ◌+◌, ℕ, List, [], ◌∷◌, ◌++◌, Bool, IsTrue, Option, Some, None, ◌&&◌, ap, append_assoc, arith, drop, false, inl, inr, length, length-append, refl, suc, subst, sym, take, true, zero, ◌∙◌}
+use Rattle.std.proofs.Common.{◌≡◌, ◌≢◌, ◌⊎◌, ◌<◌, ◌≤◌, ◌+◌, ℕ, List, [], ◌∷◌, ◌++◌, Bool, IsTrue, Option, Some, None, ◌&&◌, ap, append_assoc, arith, drop}
+use Rattle.std.proofs.Common.{false, inl, inr, length, length-append, refl, suc, subst, sym, take, true, zero, ◌∙◌}
 use Rattle.std.proofs.lemmas.Bool.Decides.{Decides-eqb, eqb_tells}
 use Rattle.std.proofs.lemmas.List.{length-take-le, take-append-drop}
 use Rattle.std.proofs.lemmas.Slice.Eq.{starts_is}
@@ -8,7 +9,8 @@ use Rattle.std.specs.List.{starts_with}
 use Rattle.std.specs.Prelude.{codes, nat_eq}
 use Rattle.gixobj_hash.specs.declared.hash.kind.Kind as hash
 use Rattle.gixobj_parse.proofs.MarkerPlaces.{begins_with_marker_at_position, marker_place_le_len, starts_line_at_marker}
-use Rattle.gixobj_parse.specs.Markers.{BeginsWithMarker, BeginsWithNoMarker, IsMarkerOf, IsMarkerPlace, HasMarkerAt, StartsLine, pgp_message, pgp_signature, signed_message, ssh_signature}
+use Rattle.gixobj_parse.specs.Markers.{BeginsWithMarker, BeginsWithNoMarker, IsMarkerOf, IsMarkerPlace, HasMarkerAt, StartsLine, pgp_message, pgp_signature}
+use Rattle.gixobj_parse.specs.Markers.{signed_message, ssh_signature}
 use Rattle.gixobj_parse.specs.declared.signature.Format.{Format}
 use Rattle.gixobj_grammar.specs.TagPrefix.{IsTagBody, IsTag}
 use Rattle.gixobj_grammar.proofs.TagBodies.{is_body_after_newline}

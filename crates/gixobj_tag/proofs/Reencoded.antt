@@ -6,14 +6,16 @@ use Rattle.bstr.specs.Owned.{bstring_bytes}
 use Rattle.gixobj_actor.proofs.OwnedActors.{encode_owned_actor_is_canonical, is_unwritable_of_error}
 use Rattle.gixobj_actor.specs.declared.actor.Signature.{Signature}
 use Rattle.gixobj_streams.specs.Streams.{SinkView}
-use Rattle.gixobj_streams.specs.Writing.{RejectedValue, RejectsNothing, IsWritingError, bad_name, empty_header, header_with_newline, illegal_actor, name_with_dash, name_with_zero_byte}
+use Rattle.gixobj_streams.specs.Writing.{RejectedValue, RejectsNothing, IsWritingError, bad_name, empty_header, header_with_newline, illegal_actor}
+use Rattle.gixobj_streams.specs.Writing.{name_with_dash, name_with_zero_byte}
 use Rattle.gixobj_streams.specs.declared.encode.Error.{Error}
 use Rattle.gixobj_streams.specs.declared.encode.Error.TheVariants as encode
 use Rattle.gixobj_streams.specs.declared.encode.RefNameFault.{RefNameFault}
 use Rattle.gixobj_hash.proofs.HexCase.{encode_id_hex_lower_case}
 use Rattle.gixobj_hash.specs.declared.hash.kind.Kind.{Kind}
 use Rattle.gixobj_tag.specs.NameRule.{BeginsWithDash, HasNoFault, IsFirstFault, IsTagName}
-use Rattle.gixobj_tag.specs.Rewriting.{AreNormalizedPartsOfTag, HasUnwritableTagger, IsCanonicalTagger, PreservesBody, IsNormalizedTagError, canonical_tagger, no_tagger}
+use Rattle.gixobj_tag.specs.Rewriting.{AreNormalizedPartsOfTag, HasUnwritableTagger, IsCanonicalTagger, PreservesBody, IsNormalizedTagError, canonical_tagger}
+use Rattle.gixobj_tag.specs.Rewriting.{no_tagger}
 use Rattle.gixobj_tag.specs.TagOwned.{IsOwnedFormOfTag, IsOwnedTagger}
 use Rattle.gixobj_tag.specs.TagFormat.{DecodesToTag, TagLines, encode_tag_lines}
 use Rattle.gixobj_grammar.specs.TagBodies.{IsBody, IsParted, are_newlines, after_a_newline, newlines_alone, signed, signed_at_once, unsigned}

@@ -7,7 +7,8 @@ use Rattle.gixobj_signature.specs.Signing.{sign_options_view, sign_plan, signatu
 use Rattle.gixobj_signature.specs.declared.signature.sign.Error.{Error}
 use Rattle.gixobj_signature.specs.declared.signature.sign.Options.{Options}
 use Rattle.gixobj_tag.specs.TagOwned.{IsOwnedFormOfTag}
-use Rattle.gixobj_tag.specs.TagSigning.{GetsTagSignature, HasNoPayload, IsSignedTag, IsSignedTagCopy, IsTagSigningError, IsTagCopySigningError, IsTagEncodingError, payload_of_tag, signed_as, unsigned}
+use Rattle.gixobj_tag.specs.TagSigning.{GetsTagSignature, HasNoPayload, IsSignedTag, IsSignedTagCopy, IsTagSigningError, IsTagCopySigningError}
+use Rattle.gixobj_tag.specs.TagSigning.{IsTagEncodingError, payload_of_tag, signed_as, unsigned}
 use Rattle.gixobj_tag.specs.TagFormat.{TagLines}
 use Rattle.gixobj_tag.specs.TagViews.{owned_tag_lines}
 use Rattle.gixobj_tag.specs.TagWriting.{IsOwnedTagError, encode_tag}

@@ -1,5 +1,6 @@
 -- Skipping bytes that begin no line break: for the split of a message into title and body.
-use Rattle.std.proofs.Common.{◌++◌, ◌==◌, ◌≡◌, ◌≢◌, ◌<◌, ◌≤◌, ◌∙◌, ◌∷◌, List, None, Some, [], ap, append-nil, arith, cond, false, length, length-take-le, refl, subst, sym, take, drop, take-append-drop, true, Bool, ℕ}
+use Rattle.std.proofs.Common.{◌++◌, ◌==◌, ◌≡◌, ◌≢◌, ◌<◌, ◌≤◌, ◌∙◌, ◌∷◌, List, None, Some, [], ap, append-nil, arith, cond, false, length, length-take-le, refl}
+use Rattle.std.proofs.Common.{subst, sym, take, drop, take-append-drop, true, Bool, ℕ}
 use Rattle.std.proofs.lemmas.Bool.Decides.{nat_tests}
 use Rattle.std.proofs.lemmas.List.{drop_more, get_or-take}
 use Rattle.std.proofs.lemmas.List.Elements.{All-from_get_or, All-head, All-tail}

@@ -1,5 +1,6 @@
 -- The first line of bytes.
-use Rattle.std.proofs.Common.{◌≡◌, ◌≢◌, ◌+◌, ◌<◌, ◌∙◌, ap, arith, sym, ℕ, zero, suc, List, [], ◌∷◌, ◌++◌, Some, None, length, take, drop, slice_index, length-take-le, take-append-drop}
+use Rattle.std.proofs.Common.{◌≡◌, ◌≢◌, ◌+◌, ◌<◌, ◌∙◌, ap, arith, sym, ℕ, zero, suc, List, [], ◌∷◌, ◌++◌, Some, None, length, take, drop, slice_index}
+use Rattle.std.proofs.Common.{length-take-le, take-append-drop}
 use Rattle.std.proofs.lemmas.Bool.{eqb-true, eq-eqb}
 use Rattle.bstr.specs.Find.{IsFirstByte, is_byte}
 use Rattle.bstr.specs.Text.{line_len, lines_of}

@@ -1,12 +1,14 @@
 -- A message splits at its first two consecutive line breaks; `message_title_and_body` uses these lemmas.
 use Rattle.std.proofs.lemmas.Bool.{eqb-true}
-use Rattle.std.proofs.Common.{◌++◌, ◌+◌, ◌∙◌, ◌∷◌, ◌≡◌, ◌≢◌, ◌≤◌, Bool, List, None, Option, Some, [], ap, append-nil, append_assoc, arith, cond, false, inl, inr, length, length-append, not, refl, subst, suc, sym, true, zero, ℕ}
+use Rattle.std.proofs.Common.{◌++◌, ◌+◌, ◌∙◌, ◌∷◌, ◌≡◌, ◌≢◌, ◌≤◌, Bool, List, None, Option, Some, [], ap, append-nil, append_assoc, arith, cond, false, inl}
+use Rattle.std.proofs.Common.{inr, length, length-append, not, refl, subst, suc, sym, true, zero, ℕ}
 use Rattle.std.specs.Prelude.{is_some, ◌&&◌, ◌==◌, ◌-◌, take}
 use Rattle.bstr.specs.BStr.{bstr_bytes}
 use Rattle.bstr.specs.declared.bstr.BStr.{BStr}
 use Rattle.gixobj_hash.specs.Optional.{bytes_if_some}
 use Rattle.std.specs.Prelude.{MatchOption}
-use Rattle.gixobj_text.specs.LineBreaks.{IsUnsplit, begins_two_breaks, after_break, after_next_break, after_carriage_return, after_two_breaks, no_double_break_before, no_double_break}
+use Rattle.gixobj_text.specs.LineBreaks.{IsUnsplit, begins_two_breaks, after_break, after_next_break, after_carriage_return, after_two_breaks}
+use Rattle.gixobj_text.specs.LineBreaks.{no_double_break_before, no_double_break}
 use Rattle.gixobj_text.specs.Titles.{HasBreaks, IsBreak, IsSplitAtBreaks, SplitsTitle}
 use Rattle.gixobj_text.specs.Titles.IsBreak.{alone, after_return}
 

@@ -1,6 +1,7 @@
 -- Steps over the lines of a body end at the first trailer, and then after the trailers of a message block;
 -- `at_trailer`, `skip_trailers` and the iterator over blocks use these lemmas.
-use Rattle.std.proofs.Common.{◌++◌, ◌+◌, ◌-◌, ◌<◌, ◌==◌, ◌∙◌, ◌∷◌, ◌≡◌, ◌≢◌, ◌≤◌, All, Bool, List, [], ap, append-nil, append_assoc, arith, drop, false, length, length-append, length-drop, not, refl, subst, sym, take, take-append-drop, true, ℕ}
+use Rattle.std.proofs.Common.{◌++◌, ◌+◌, ◌-◌, ◌<◌, ◌==◌, ◌∙◌, ◌∷◌, ◌≡◌, ◌≢◌, ◌≤◌, All, Bool, List, [], ap, append-nil, append_assoc, arith, drop, false, length}
+use Rattle.std.proofs.Common.{length-append, length-drop, not, refl, subst, sym, take, take-append-drop, true, ℕ}
 use Rattle.std.proofs.lemmas.List.Elements.{All-nil, All-tail}
 use Rattle.std.proofs.lemmas.List.Folds.{concat-append}
 use Rattle.std.specs.Prelude.{◌||◌}

@@ -1,6 +1,7 @@
 -- The summary of a title is made of its pieces between newlines, without trailing white space; the functions of
 -- `summary` use these lemmas.
-use Rattle.std.proofs.Common.{◌++◌, ◌+◌, ◌-◌, ◌<◌, ◌∙◌, ◌∷◌, ◌≡◌, ◌≢◌, Bool, List, None, Some, [], ap, append-nil, append_assoc, arith, cond, drop, false, length, length-drop, map, refl, reverse, slice_index, suc, sym, take, true, zero, ℕ}
+use Rattle.std.proofs.Common.{◌++◌, ◌+◌, ◌-◌, ◌<◌, ◌∙◌, ◌∷◌, ◌≡◌, ◌≢◌, Bool, List, None, Some, [], ap, append-nil, append_assoc, arith, cond, drop, false}
+use Rattle.std.proofs.Common.{length, length-drop, map, refl, reverse, slice_index, suc, sym, take, true, zero, ℕ}
 use Rattle.std.proofs.lemmas.Bool.{eqb-true, ne_eqb, eq-eqb, cond-true, cond-false}
 use Rattle.std.proofs.lemmas.List.{reverse-append, reverse-reverse}
 use Rattle.std.proofs.lemmas.List.Sums.{take_while-cons}

@@ -1,5 +1,6 @@
 -- Steps over the token and the gap of a trailer line: for `TrailerDecoding` and the calls of `trailer_lines`.
-use Rattle.std.proofs.Common.{◌-◌, ◌≤◌, ◌≡◌, ◌≢◌, ◌∷◌, ◌∙◌, ◌==◌, ap, arith, length, length-drop, refl, subst, sym, take, ℕ, Bool, true, false, cond, suc, List, [], Option, Some, None}
+use Rattle.std.proofs.Common.{◌-◌, ◌≤◌, ◌≡◌, ◌≢◌, ◌∷◌, ◌∙◌, ◌==◌, ap, arith, length, length-drop, refl, subst, sym, take, ℕ, Bool, true, false, cond, suc, List}
+use Rattle.std.proofs.Common.{[], Option, Some, None}
 use Rattle.std.proofs.lemmas.Bool.Decides.{nat_tests}
 use Rattle.std.proofs.lemmas.List.Sums.{prefix_len-le-length, take_while-cons}
 use Rattle.std.specs.List.{prefix_len, take_while}

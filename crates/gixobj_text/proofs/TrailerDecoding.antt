@@ -1,6 +1,7 @@
 -- Trailer lines and their values are decoded line by line; the functions of `trailer_lines` and `trailers` use these
 -- lemmas.
-use Rattle.std.proofs.Common.{◌++◌, ◌+◌, ◌<◌, ◌∙◌, ◌∷◌, ◌≡◌, ◌≢◌, ◌≤◌, Bool, List, None, Option, Some, [], ap, append-nil, append_assoc, arith, cond, false, filter, length, length-append, map, refl, sym, true, ℕ}
+use Rattle.std.proofs.Common.{◌++◌, ◌+◌, ◌<◌, ◌∙◌, ◌∷◌, ◌≡◌, ◌≢◌, ◌≤◌, Bool, List, None, Option, Some, [], ap, append-nil, append_assoc, arith, cond, false}
+use Rattle.std.proofs.Common.{filter, length, length-append, map, refl, sym, true, ℕ}
 use Rattle.std.proofs.lemmas.Bool.Decides.{nat_tests}
 use Rattle.std.proofs.lemmas.List.Sums.{take_while-cons}
 use Rattle.std.specs.Char.{is_ascii_whitespace}
@@ -10,7 +11,8 @@ use Rattle.bstr.specs.Owned.{joined}
 use Rattle.bstr.specs.Text.{lines_of}
 use Rattle.bstr.proofs.lemmas.LineLemmas.{lines-nil}
 use Rattle.gixobj_text.specs.FirstLines.{HasLastLines, IsFirstLine}
-use Rattle.gixobj_text.specs.BodyLines.{TrailerParts, begins_indented, is_blank, is_continuation_line, is_indented, is_token_byte, parts_of_line, trimmed_line, trailer_parts}
+use Rattle.gixobj_text.specs.BodyLines.{TrailerParts, begins_indented, is_blank, is_continuation_line, is_indented, is_token_byte, parts_of_line, trimmed_line}
+use Rattle.gixobj_text.specs.BodyLines.{trailer_parts}
 use Rattle.gixobj_text.specs.Trailers.{trailers_of, trailers_of_bytes, unfolded, with_trailer}
 use Rattle.gixobj_hash.specs.ByteStrings.{is_filled, trimmed}
 use Rattle.gixobj_text.proofs.LastLines.{last_lines_step}

@@ -1,5 +1,6 @@
 -- Filters of trailers by their tokens.
-use Rattle.std.specs.Prelude.{◌≡◌, ℕ, Bool, List, [], ◌∷◌, IsFalse, IsTrue, Option, Some, None, Result, Ok, Err, codes, filter as filtered, ⊤}
+use Rattle.std.specs.Prelude.{◌≡◌, ℕ, Bool, List, [], ◌∷◌, IsFalse, IsTrue, Option, Some, None, Result, Ok, Err, codes}
+use Rattle.std.specs.Prelude.{filter as filtered, ⊤}
 use Rattle.std.specs.Iterator.{Count}
 use Rattle.gixobj_hash.specs.declared.memory.OutOfMemory.{OutOfMemory}
 use Rattle.gixobj_text.specs.TrailerSteps.{NextTrailer, remaining_trailer_count, trailer_view, remaining_trailers}

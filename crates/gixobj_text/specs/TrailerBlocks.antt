@@ -1,5 +1,6 @@
 -- The trailer block at the end of a body (git-interpret-trailers).
-use Rattle.std.specs.Prelude.{◌≡◌, ◌≢◌, ◌⊎◌, ◌<◌, ◌≤◌, ◌+◌, ◌*◌, ℕ, Bool, true, false, if◌then◌else◌, List, [], ◌∷◌, ◌++◌, ◌||◌, All, IsTrue, IsFalse, count_by, length}
+use Rattle.std.specs.Prelude.{◌≡◌, ◌≢◌, ◌⊎◌, ◌<◌, ◌≤◌, ◌+◌, ◌*◌, ℕ, Bool, true, false, if◌then◌else◌, List, [], ◌∷◌}
+use Rattle.std.specs.Prelude.{◌++◌, ◌||◌, All, IsTrue, IsFalse, count_by, length}
 use Rattle.std.specs.List.{concat, list_any}
 use Rattle.bstr.specs.Text.{lines_of}
 use Rattle.gixobj_text.specs.BodyLines.{is_blank, is_indented, is_git_generated, is_trailer_line, trimmed_line}

@@ -14,10 +14,13 @@ use Rattle.gixobj_hash.proofs.HexIds.{decoded_id_unique, decoded_id_decodes}
 use Rattle.gixobj_hash.specs.Hash.Hex.{decoded_id}
 use Rattle.gixobj_hash.specs.declared.hash.kind.Kind.{Kind}
 use Rattle.gixobj_grammar.proofs.OneLine.{no_line_of_nil, line_unique}
-use Rattle.gixobj_grammar.specs.Lines.{BeginsWithLine, LineView, author_comes, committer_comes, encoding_comes, first_header_comes, first_message_comes, header_comes, message_comes, parent_comes, tree_comes}
+use Rattle.gixobj_grammar.specs.Lines.{BeginsWithLine, LineView, author_comes, committer_comes, encoding_comes, first_header_comes, first_message_comes}
+use Rattle.gixobj_grammar.specs.Lines.{header_comes, message_comes, parent_comes, tree_comes}
 use Rattle.gixobj_grammar.specs.declared.lines.State.{State}
 use Rattle.gixobj_tokens.specs.CommitRuns.{YieldsCommitTokens}
-use Rattle.gixobj_tokens.specs.CommitTokens.{BeginsWithCommitToken, DecodesToCommitToken, IsTokenOfLine, CommitTokenView, author_token, committer_token, encoding_token, header_token, message_token, parent_token, yields_author, yields_committer, yields_encoding, yields_header, yields_message, yields_parent, yields_tree, tree_token}
+use Rattle.gixobj_tokens.specs.CommitTokens.{BeginsWithCommitToken, DecodesToCommitToken, IsTokenOfLine, CommitTokenView, author_token, committer_token}
+use Rattle.gixobj_tokens.specs.CommitTokens.{encoding_token, header_token, message_token, parent_token, yields_author, yields_committer, yields_encoding}
+use Rattle.gixobj_tokens.specs.CommitTokens.{yields_header, yields_message, yields_parent, yields_tree, tree_token}
 
 -- ---- at most one token
 

@@ -22,10 +22,13 @@ use Rattle.gixobj_tokens.proofs.CommitLanguage as language
 use Rattle.gixobj_tokens.proofs.CommitRuns.{token_run_unique}
 use Rattle.gixobj_tokens.proofs.CommitTokens.{no_commit_token_of_nil, commit_token_unique}
 use Rattle.gixobj_tokens.specs.CommitRuns.{YieldsCommitTokens}
-use Rattle.gixobj_tokens.specs.CommitTokens.{CommitTokenView, BeginsWithCommitToken, IsTokenOfLine, author_token, commit_token_view, committer_token, message_token, yields_author, yields_committer, yields_message, yields_tree, tree_token}
+use Rattle.gixobj_tokens.specs.CommitTokens.{CommitTokenView, BeginsWithCommitToken, IsTokenOfLine, author_token, commit_token_view, committer_token}
+use Rattle.gixobj_tokens.specs.CommitTokens.{message_token, yields_author, yields_committer, yields_message, yields_tree, tree_token}
 use Rattle.gixobj_tokens.specs.Readers.{AreTokensOfCommit, EndsInMessage}
-use Rattle.gixobj_tokens.specs.CommitTokenSteps.{NextCommitToken, NextIdOfCommit, IsAtStartOfCommit, answered_commit_id, commit_id_or_malformed, commit_token_id, commit_reader_state}
-use Rattle.gixobj_tokens.specs.TokenSearch.{EndsSearch, FindsAuthor, FindsCommitter, FindsMessage, IsAuthorToken, IsCommitterToken, IsMessageToken, first_token, no_token, optional_error, required_error}
+use Rattle.gixobj_tokens.specs.CommitTokenSteps.{NextCommitToken, NextIdOfCommit, IsAtStartOfCommit, answered_commit_id, commit_id_or_malformed}
+use Rattle.gixobj_tokens.specs.CommitTokenSteps.{commit_token_id, commit_reader_state}
+use Rattle.gixobj_tokens.specs.TokenSearch.{EndsSearch, FindsAuthor, FindsCommitter, FindsMessage, IsAuthorToken, IsCommitterToken, IsMessageToken, first_token}
+use Rattle.gixobj_tokens.specs.TokenSearch.{no_token, optional_error, required_error}
 use Rattle.gixobj_tokens.specs.declared.commit.CommitRefIter.{CommitRefIter}
 use Rattle.gixobj_tokens.specs.declared.commit.Token.{Token}
 

@@ -14,7 +14,8 @@ use Rattle.gixobj_hash.proofs.Runs.{after_first, yields_after_pieces}
 use Rattle.gixobj_hash.specs.HeaderFormat.{Header}
 use Rattle.gixobj_hash.specs.Runs.{Ending, HasNone, complete, yields_end, yields_error, yields_piece}
 use Rattle.gixobj_grammar.specs.Commit.{CommitLines, DecodesToCommit, encoding_lines, lines_of_commit}
-use Rattle.gixobj_grammar.specs.Lines.{BeginsWithLine, LineView, MayFold, author_comes, committer_comes, encoding_comes, first_header_comes, first_message_comes, header_comes, header_line, message_comes, message_line, parent_comes, parent_line, tree_comes}
+use Rattle.gixobj_grammar.specs.Lines.{BeginsWithLine, LineView, MayFold, author_comes, committer_comes, encoding_comes, first_header_comes}
+use Rattle.gixobj_grammar.specs.Lines.{first_message_comes, header_comes, header_line, message_comes, message_line, parent_comes, parent_line, tree_comes}
 use Rattle.gixobj_grammar.specs.declared.lines.State.{State}
 use Rattle.gixobj_grammar.specs.declared.lines.State.TheVariants as state
 use Rattle.gixobj_tokens.proofs.CommitsFound.{yields_tokens_from_start}
@@ -22,7 +23,9 @@ use Rattle.gixobj_tokens.proofs.CommitLanguage as language
 use Rattle.gixobj_tokens.proofs.CommitRuns.{token_run_unique}
 use Rattle.gixobj_tokens.proofs.CommitTokens.{no_commit_token_of_nil, commit_token_unique}
 use Rattle.gixobj_tokens.specs.CommitRuns.{YieldsCommitTokens}
-use Rattle.gixobj_tokens.specs.CommitTokens.{BeginsWithCommitToken, IsTokenOfLine, CommitTokenView, author_token, committer_token, encoding_token, header_token, message_token, parent_token, yields_author, yields_committer, yields_encoding, yields_header, yields_message, yields_parent, yields_tree, tree_token}
+use Rattle.gixobj_tokens.specs.CommitTokens.{BeginsWithCommitToken, IsTokenOfLine, CommitTokenView, author_token, committer_token, encoding_token, header_token}
+use Rattle.gixobj_tokens.specs.CommitTokens.{message_token, parent_token, yields_author, yields_committer, yields_encoding, yields_header, yields_message}
+use Rattle.gixobj_tokens.specs.CommitTokens.{yields_parent, yields_tree, tree_token}
 use Rattle.gixobj_tokens.specs.Readers.{AreTokensOfCommit}
 use Rattle.gixobj_tokens.specs.TokenFilters.{NextParent, parents_reader}
 use Rattle.gixobj_tokens.specs.CommitTokenSteps.{IsAtStartOfCommit, commit_reader_state}

@@ -18,7 +18,8 @@ use Rattle.gixobj_tag.proofs.Bodies.{body_unique}
 use Rattle.gixobj_tag.proofs.EntireTags.{Reads, decodes_tag_of_parts, parts_of_decoded_tag}
 use Rattle.gixobj_grammar.specs.TagLines.{BeginsWithTagName, BeginsWithTagger}
 use Rattle.gixobj_tokens.specs.TagReaders.{AreTokensOfTag, IsOptionalToken, IsAfterName, misses_body, misses_nothing, misses_tagger_and_body}
-use Rattle.gixobj_grammar.specs.TagTokens.{IsTokenOfTagger, yields_no_tagger, yields_tagger, TagTokenView, body_comes, body_token, kind_comes, kind_token, name_comes, name_token, no_tagger_comes, no_tagger_token, tagger_comes, tagger_token, target_comes, target_token}
+use Rattle.gixobj_grammar.specs.TagTokens.{IsTokenOfTagger, yields_no_tagger, yields_tagger, TagTokenView, body_comes, body_token, kind_comes, kind_token}
+use Rattle.gixobj_grammar.specs.TagTokens.{name_comes, name_token, no_tagger_comes, no_tagger_token, tagger_comes, tagger_token, target_comes, target_token}
 use Rattle.gixobj_tag.specs.TagFormat.{DecodesToTag, TagLines}
 use Rattle.gixobj_grammar.specs.TagBodies.{IsBody, newlines_alone}
 use Rattle.gixobj_tokens.specs.TagTokenSteps.{YieldsTagTokens}

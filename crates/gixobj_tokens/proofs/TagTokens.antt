@@ -17,7 +17,8 @@ use Rattle.gixobj_hash.specs.declared.hash.kind.Kind as hash
 use Rattle.gixobj_hash.specs.declared.hash.object_id.ObjectId.{ObjectId}
 use Rattle.gixobj_tag.proofs.Bodies.{body_unique}
 use Rattle.gixobj_grammar.proofs.TagLines.{no_tagger_and_begins_field}
-use Rattle.gixobj_grammar.specs.TagTokens.{BeginsWithTagToken, DecodesToTagToken, TagTokenView, body_comes, kind_comes, kind_token, name_comes, name_token, no_tagger_comes, tagger_comes, tagger_token, target_comes, target_token}
+use Rattle.gixobj_grammar.specs.TagTokens.{BeginsWithTagToken, DecodesToTagToken, TagTokenView, body_comes, kind_comes, kind_token, name_comes, name_token}
+use Rattle.gixobj_grammar.specs.TagTokens.{no_tagger_comes, tagger_comes, tagger_token, target_comes, target_token}
 use Rattle.gixobj_tokens.specs.TagTokenSteps.{remaining_states}
 use Rattle.gixobj_grammar.specs.declared.tokens.State.{State}
 

@@ -14,10 +14,13 @@ use Rattle.gixobj_hash.specs.declared.hash.object_id.ObjectId.{ObjectId}
 use Rattle.gixobj_tokens.proofs.TagLanguage as language
 use Rattle.gixobj_tokens.proofs.TagRuns.{token_run_unique}
 use Rattle.gixobj_tokens.proofs.TagTokens.{no_tag_token_of_nil, tag_token_unique}
-use Rattle.gixobj_tokens.specs.TagReaders.{AreTokensOfTag, EndsAfterItsName, IsOptionalToken, IsAfterName, AreAllTokensOfTag, misses_body, misses_nothing, misses_tagger_and_body}
-use Rattle.gixobj_grammar.specs.TagTokens.{IsTokenOfTagger, yields_no_tagger, yields_tagger, BeginsWithTagToken, TagTokenView, body_token, kind_token, name_token, no_tagger_token, target_token, tag_token_view, tag_token_id}
+use Rattle.gixobj_tokens.specs.TagReaders.{AreTokensOfTag, EndsAfterItsName, IsOptionalToken, IsAfterName, AreAllTokensOfTag, misses_body, misses_nothing}
+use Rattle.gixobj_tokens.specs.TagReaders.{misses_tagger_and_body}
+use Rattle.gixobj_grammar.specs.TagTokens.{IsTokenOfTagger, yields_no_tagger, yields_tagger, BeginsWithTagToken, TagTokenView, body_token, kind_token}
+use Rattle.gixobj_grammar.specs.TagTokens.{name_token, no_tagger_token, target_token, tag_token_view, tag_token_id}
 use Rattle.gixobj_tag.specs.TagFormat.{DecodesToTag, TagLines}
-use Rattle.gixobj_tokens.specs.TagTokenSteps.{FindsTagger, NextIdOfTag, NextTagToken, IsAtStartOfTag, IsTaggerToken, YieldsNoTagger, YieldsTagTokens, answered_tag_id, tag_id_or_malformed, tag_reader_state, token_of_tagger}
+use Rattle.gixobj_tokens.specs.TagTokenSteps.{FindsTagger, NextIdOfTag, NextTagToken, IsAtStartOfTag, IsTaggerToken, YieldsNoTagger, YieldsTagTokens}
+use Rattle.gixobj_tokens.specs.TagTokenSteps.{answered_tag_id, tag_id_or_malformed, tag_reader_state, token_of_tagger}
 use Rattle.gixobj_grammar.specs.declared.tokens.State.{State}
 use Rattle.gixobj_grammar.specs.declared.tokens.State.TheVariants as state
 use Rattle.gixobj_tokens.specs.declared.tag.TagRefIter.{TagRefIter}

@@ -8,7 +8,8 @@ use Rattle.gixobj_hash.specs.declared.hash.object_id.ObjectId.{ObjectId}
 use Rattle.gixobj_parse.specs.Iterators.{NextPiece, ReaderState}
 use Rattle.gixobj_grammar.specs.Lines.{NeedsAllocation}
 use Rattle.gixobj_tokens.specs.CommitTokens.{BeginsWithCommitToken, CommitTokenView, commit_token_view}
-use Rattle.gixobj_tokens.specs.CommitTokens.CommitTokenView.{tree_token, parent_token, author_token, committer_token, encoding_token, header_token, message_token}
+use Rattle.gixobj_tokens.specs.CommitTokens.CommitTokenView.{tree_token, parent_token, author_token, committer_token}
+use Rattle.gixobj_tokens.specs.CommitTokens.CommitTokenView.{encoding_token, header_token, message_token}
 use Rattle.gixobj_tokens.specs.declared.commit.CommitRefIter.{CommitRefIter}
 use Rattle.gixobj_grammar.specs.declared.lines.State.{State}
 use Rattle.gixobj_grammar.specs.declared.lines.State.TheVariants as state

@@ -7,7 +7,8 @@ use Rattle.gixobj_hash.specs.HeaderFormat.{Header}
 use Rattle.gixobj_hash.specs.Hash.{DecodesToId}
 use Rattle.gixobj_hash.specs.declared.hash.kind.Kind.{Kind}
 use Rattle.gixobj_hash.specs.declared.hash.object_id.ObjectId.{ObjectId}
-use Rattle.gixobj_grammar.specs.Lines.{BeginsWithLine, LineView, author_line, committer_line, encoding_line, header_line, message_line, parent_line, tree_line}
+use Rattle.gixobj_grammar.specs.Lines.{BeginsWithLine, LineView, author_line, committer_line, encoding_line}
+use Rattle.gixobj_grammar.specs.Lines.{header_line, message_line, parent_line, tree_line}
 use Rattle.gixobj_grammar.specs.declared.lines.State.{State}
 use Rattle.gixobj_tokens.specs.declared.commit.Token.{Token}
 use Rattle.gixobj_tokens.specs.declared.commit.Token.TheVariants as token

@@ -3,7 +3,8 @@ use Rattle.std.specs.Prelude.{◌≡◌, List, [], ◌∷◌, ◌++◌, None, �
 use Rattle.gixobj_hash.specs.Hash.{DecodesToId}
 use Rattle.gixobj_hash.specs.declared.hash.object_id.ObjectId.{ObjectId}
 use Rattle.gixobj_tag.specs.TagFormat.{TagLines}
-use Rattle.gixobj_grammar.specs.TagTokens.{IsTokenOfTagger, TagTokenView, body_token, kind_token, name_token, no_tagger_token, target_token}
+use Rattle.gixobj_grammar.specs.TagTokens.{IsTokenOfTagger, TagTokenView, body_token, kind_token, name_token}
+use Rattle.gixobj_grammar.specs.TagTokens.{no_tagger_token, target_token}
 
 -- one of the tokens is a name
 abbrev pub IsAfterName : List TagTokenView → Type 0

@@ -12,7 +12,8 @@ use Rattle.gixobj_hash.specs.declared.decode.Error.{Error}
 use Rattle.gixobj_hash.specs.declared.decode.Error.TheVariants.{Malformed}
 use Rattle.gixobj_hash.specs.declared.hash.kind.Kind.{Kind}
 use Rattle.gixobj_hash.specs.declared.hash.object_id.ObjectId.{ObjectId}
-use Rattle.gixobj_grammar.specs.TagTokens.{BeginsWithTagToken, DecodesToTagToken, TagTokenView, no_tagger_token, tagger_token, tag_token_id, tag_token_view}
+use Rattle.gixobj_grammar.specs.TagTokens.{BeginsWithTagToken, DecodesToTagToken, TagTokenView, no_tagger_token}
+use Rattle.gixobj_grammar.specs.TagTokens.{tagger_token, tag_token_id, tag_token_view}
 use Rattle.gixobj_grammar.specs.declared.tokens.State.{State}
 use Rattle.gixobj_grammar.specs.declared.tokens.State.TheVariants as state
 use Rattle.gixobj_grammar.specs.declared.tokens.Token.{Token}

@@ -9,7 +9,8 @@ use Rattle.gixobj_hash.specs.Runs as runs
 use Rattle.gixobj_hash.specs.Runs.{Ending, complete}
 use Rattle.gixobj_grammar.specs.Lines.{NeedsAllocation}
 use Rattle.gixobj_grammar.specs.declared.lines.State.TheVariants as state
-use Rattle.gixobj_tokens.specs.CommitTokens.{CommitTokenView, BeginsWithCommitToken, DecodesToCommitToken, author_token, committer_token, message_token, parent_token}
+use Rattle.gixobj_tokens.specs.CommitTokens.{CommitTokenView, BeginsWithCommitToken, DecodesToCommitToken, author_token}
+use Rattle.gixobj_tokens.specs.CommitTokens.{committer_token, message_token, parent_token}
 use Rattle.gixobj_tokens.specs.CommitTokenSteps.{commit_reader_state}
 use Rattle.gixobj_tokens.specs.declared.commit.CommitRefIter.{CommitRefIter}
 

@@ -3,7 +3,8 @@ ghost use Rattle.std.specs.Prelude.{◌≡◌, MatchOption, None, Some};
 ghost use Rattle.gixobj_hash.specs.Hash.Borrowed.{borrowed_id};
 ghost use Rattle.gixobj_grammar.specs.Lines.{HasHex, IsParsedLine, line_view};
 ghost use Rattle.gixobj_tokens.specs.CommitTokens.{IsTokenOfLine, commit_token_view};
-ghost use Rattle.gixobj_tokens.specs.CommitTokenSteps.{BorrowsValue, NextCommitToken, IsAtStartOfCommit, commit_token_id, remaining_commit_token_count};
+ghost use Rattle.gixobj_tokens.specs.CommitTokenSteps.{BorrowsValue, NextCommitToken, IsAtStartOfCommit};
+ghost use Rattle.gixobj_tokens.specs.CommitTokenSteps.{commit_token_id, remaining_commit_token_count};
 
 mod access;
 mod filters;

@@ -2,7 +2,8 @@
 ghost use Rattle.std.specs.Prelude.{◌≡◌, IfErr, IfOk};
 ghost use Rattle.gixobj_hash.specs.Runs.{Ending};
 ghost use Rattle.gixobj_hash.specs.declared.decode.Error.TheVariants.{Malformed};
-ghost use Rattle.gixobj_tokens.specs.TagTokenSteps.{FindsTagger, NextIdOfTag, NextTagToken, IsAtStartOfTag, YieldsNoTagger, remaining_tag_token_count};
+ghost use Rattle.gixobj_tokens.specs.TagTokenSteps.{FindsTagger, NextIdOfTag, NextTagToken, IsAtStartOfTag};
+ghost use Rattle.gixobj_tokens.specs.TagTokenSteps.{YieldsNoTagger, remaining_tag_token_count};
 
 mod signature;
 

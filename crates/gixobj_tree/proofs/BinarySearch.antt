@@ -1,5 +1,6 @@
 -- A binary search of borrowed entries by name finds the entry with the key; used by the proofs of `bisect_entry`.
-use Rattle.std.proofs.Common.{◌≡◌, ◌+◌, ◌<◌, ◌≤◌, ℕ, Bool, false, List, [], ◌∷◌, Contains, Less, Equal, Greater, Ordering, Result, Ok, Err, ap, arith, get_or, length, map, refl, subst, sym, ◌∙◌}
+use Rattle.std.proofs.Common.{◌≡◌, ◌+◌, ◌<◌, ◌≤◌, ℕ, Bool, false, List, [], ◌∷◌, Contains, Less, Equal, Greater, Ordering, Result, Ok, Err, ap, arith, get_or}
+use Rattle.std.proofs.Common.{length, map, refl, subst, sym, ◌∙◌}
 use Rattle.std.proofs.lemmas.List.{get_or-map, get_or_default, length-map}
 use Rattle.std.proofs.lemmas.List.Elements.{All-from_recursion}
 use Rattle.std.specs.Cmp.Lexicographic.{slice_cmp}

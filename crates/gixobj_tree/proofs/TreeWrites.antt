@@ -1,5 +1,6 @@
 -- The writes and the sizes of entries are those of the tree; used by the proofs of the writers of trees.
-use Rattle.std.proofs.Common.{◌≡◌, ℕ, ◌+◌, ◌*◌, ◌<◌, ◌≤◌, ◌^◌, List, [], ◌∷◌, ◌++◌, length, get_or, take, drop, All, ◌⊎◌, ⊎_elim, inl, inr, refl, ap, arith, subst, sym, ◌∙◌, append_assoc, length-append}
+use Rattle.std.proofs.Common.{◌≡◌, ℕ, ◌+◌, ◌*◌, ◌<◌, ◌≤◌, ◌^◌, List, [], ◌∷◌, ◌++◌, length, get_or, take, drop, All, ◌⊎◌, ⊎_elim, inl, inr, refl, ap, arith}
+use Rattle.std.proofs.Common.{subst, sym, ◌∙◌, append_assoc, length-append}
 use Rattle.std.specs.Prelude.{Contains}
 use Rattle.std.proofs.lemmas.List.{append-nil, take_all, take_more, take-append-drop, drop_more}
 use Rattle.std.proofs.lemmas.List.Elements.{All-contains, All-head, All-push, All-tail, Contains-append_right, Contains-get_or}

@@ -1,6 +1,7 @@
 -- Well-formed trees: ascending neighbours, binary searches, and entries of one name; used by the proofs of
 -- `is_well_formed`, of directories and of files.
-use Rattle.std.proofs.Common.{◌≡◌, ◌≢◌, ℕ, zero, suc, ◌+◌, ◌<◌, ◌⊎◌, inl, inr, arith, Bool, true, false, not, List, [], ◌∷◌, ◌++◌, length, get_or, All, Contains, MatchBool, HoldsAt, refl, sym, ap, subst, ◌∙◌, Less, Equal, Greater, Ordering, Result, Ok, Err}
+use Rattle.std.proofs.Common.{◌≡◌, ◌≢◌, ℕ, zero, suc, ◌+◌, ◌<◌, ◌⊎◌, inl, inr, arith, Bool, true, false, not, List, [], ◌∷◌, ◌++◌, length, get_or, All}
+use Rattle.std.proofs.Common.{Contains, MatchBool, HoldsAt, refl, sym, ap, subst, ◌∙◌, Less, Equal, Greater, Ordering, Result, Ok, Err}
 use mathlib.Core.Bool.{true≢false}
 use Rattle.std.specs.Cmp.Lexicographic.{slice_cmp}
 use Rattle.std.specs.List.{AllAdjacentBelow, AllWithin, IsAllAdjacentAnswer}

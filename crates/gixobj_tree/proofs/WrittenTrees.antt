@@ -1,6 +1,7 @@
 -- Borrowed trees encoded, and trees that re-encode identically and round-trip: for `TreeRef::size` and the
 -- laws of trees.
-use Rattle.std.proofs.Common.{◌≡◌, ◌<◌, ◌+◌, ◌++◌, ◌∷◌, ℕ, List, [], All, ap, append_assoc, arith, get_or, length, length-append, map, refl, subst, sym, take, ◌∙◌}
+use Rattle.std.proofs.Common.{◌≡◌, ◌<◌, ◌+◌, ◌++◌, ◌∷◌, ℕ, List, [], All, ap, append_assoc, arith, get_or, length, length-append, map, refl, subst, sym, take}
+use Rattle.std.proofs.Common.{◌∙◌}
 use Rattle.std.proofs.lemmas.List.Elements.{All-cons, All-head, All-nil, All-tail}
 use Rattle.std.specs.List.{AllZip, concat}
 use Rattle.gixobj_streams.specs.Writing.{RejectsNothing}

@@ -1,6 +1,7 @@
 -- The number of the first seven bytes decides whether they begin with the mode of a kind and a space. The functions
 -- `kind_prefix` and `EntryMode::extract_from_bytes` use it.
-use Rattle.std.proofs.Common.{◌≡◌, ◌≢◌, ◌<◌, ◌≤◌, ◌/◌, ◌++◌, ◌∷◌, ℕ, zero, suc, List, [], ap, append_assoc, arith, codes, drop, get_or, length, refl, subst, sym, take, ◌∙◌}
+use Rattle.std.proofs.Common.{◌≡◌, ◌≢◌, ◌<◌, ◌≤◌, ◌/◌, ◌++◌, ◌∷◌, ℕ, zero, suc, List, [], ap, append_assoc, arith, codes, drop, get_or, length, refl, subst}
+use Rattle.std.proofs.Common.{sym, take, ◌∙◌}
 use Rattle.std.proofs.Math.Seq.{drop-append_seam, take-append_seam}
 use Rattle.std.proofs.lemmas.List.{length-take, take-append-drop}
 use Rattle.std.proofs.lemmas.Nat.{be_bytes_8}

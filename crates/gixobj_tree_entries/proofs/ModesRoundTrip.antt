@@ -1,6 +1,7 @@
 -- An encoded mode decodes to the same mode. The law `mode_round_trips`, the proofs of a kind's mode and those of
 -- encoded trees use it.
-use Rattle.std.proofs.Common.{◌≡◌, ◌<◌, ◌≤◌, ◌+◌, ◌*◌, ◌/◌, ◌%◌, ◌==◌, ◌&&◌, ℕ, Bool, true, false, List, [], ◌∷◌, ◌++◌, if◌then◌else◌, ◌^◌, arith, refl, subst, ◌∙◌, inl, inr, lit<, lit≤, slice_index, codes}
+use Rattle.std.proofs.Common.{◌≡◌, ◌<◌, ◌≤◌, ◌+◌, ◌*◌, ◌/◌, ◌%◌, ◌==◌, ◌&&◌, ℕ, Bool, true, false, List, [], ◌∷◌, ◌++◌, if◌then◌else◌, ◌^◌, arith, refl, subst}
+use Rattle.std.proofs.Common.{◌∙◌, inl, inr, lit<, lit≤, slice_index, codes}
 use Rattle.std.proofs.lemmas.Bool.{cases_lt}
 use Rattle.std.proofs.lemmas.Bool.Decides.{nat_tests}
 use Rattle.std.specs.Char.{digit_value}

@@ -1,5 +1,6 @@
 -- The first zero byte among the first bytes, by a mask with a bit for each byte.
-use Rattle.std.proofs.Common.{add-one, ◌≡◌, ◌≢◌, ◌<◌, ◌+◌, ◌*◌, ◌∷◌, ℕ, zero, suc, Bool, cond, false, List, [], ap, arith, drop, eqb, map, not, refl, subst, sym, take, ◌∙◌}
+use Rattle.std.proofs.Common.{add-one, ◌≡◌, ◌≢◌, ◌<◌, ◌+◌, ◌*◌, ◌∷◌, ℕ, zero, suc, Bool, cond, false, List, [], ap, arith, drop, eqb, map, not, refl, subst}
+use Rattle.std.proofs.Common.{sym, take, ◌∙◌}
 use Rattle.std.proofs.lemmas.Bool.{ne_eqb}
 use Rattle.std.proofs.lemmas.List.Elements.{All-cons, All-nil}
 use Rattle.std.specs.List.{prefix_len}

@@ -3,8 +3,10 @@ use Rattle.std.specs.Prelude.{◌≡◌, ◌==◌, ◌&&◌, Bool, true, false, 
 use Rattle.std.proofs.Common.{ap, rules, sym, ◌∙◌}
 use mathlib.Core.Bool.{true≢false}
 use Rattle.std.specs.Hash.{items_Alike}
-use Rattle.std.specs.Cmp.{unsigned_ties, IsEquivalence, first_so, second_so, IsTotalOrder, and_equiv, eq_by_cmp_equiv, nat_cmp_total, nat_eq_equiv, on_equiv, on_total, then_total, tied_then}
-use Rattle.std.specs.Cmp.Lexicographic.{lists_equiv, lists_ties, lists_total, bytes_decides, nat_list_eq_equiv, on_texts, pointwise, slice_cmp, texts_ties}
+use Rattle.std.specs.Cmp.{unsigned_ties, IsEquivalence, first_so, second_so, IsTotalOrder, and_equiv, eq_by_cmp_equiv}
+use Rattle.std.specs.Cmp.{nat_cmp_total, nat_eq_equiv, on_equiv, on_total, then_total, tied_then}
+use Rattle.std.specs.Cmp.Lexicographic.{lists_equiv, lists_ties, lists_total, bytes_decides, nat_list_eq_equiv}
+use Rattle.std.specs.Cmp.Lexicographic.{on_texts, pointwise, slice_cmp, texts_ties}
 use Rattle.std.specs.Ordering.{is_eq, nat_cmp, ordering_then}
 use Rattle.gixobj_hash.specs.Hash.{id_bytes}
 use Rattle.gixobj_hash.specs.Hash.Order.{id_cmp}

@@ -1,6 +1,7 @@
 -- The order of the entries of trees: by key, so that a directory is at the position of its files (gitformat-index
 -- orders files by the unsigned bytes of their names; git-fsck reports other orders as `treeNotSorted`).
-use Rattle.std.specs.Prelude.{◌≡◌, ℕ, Bool, Option, Some, None, List, [], ◌∷◌, ◌++◌, if◌then◌else◌, length, min, take, drop}
+use Rattle.std.specs.Prelude.{◌≡◌, ℕ, Bool, Option, Some, None, List, [], ◌∷◌, ◌++◌, if◌then◌else◌, length, min, take}
+use Rattle.std.specs.Prelude.{drop}
 use Rattle.std.specs.Cmp.Lexicographic.{slice_cmp}
 use Rattle.std.specs.List.{AllByRecursion}
 use Rattle.std.specs.Option.{option_cmp}

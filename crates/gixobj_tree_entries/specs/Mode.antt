@@ -1,10 +1,12 @@
 -- The modes of tree entries: their encoding, type bits and kinds (git-fast-import, "filemodify"; gitdatamodel,
 -- "trees").
-use Rattle.std.specs.Prelude.{◌≡◌, ◌≢◌, ◌≤◌, ◌⊎◌, ◌/◌, ◌%◌, ◌==◌, ◌&&◌, ℕ, Bool, List, [], ◌∷◌, ◌++◌, codes, bit_and, if◌then◌else◌, length, slice_index, ◌<◌, ◌^◌}
+use Rattle.std.specs.Prelude.{◌≡◌, ◌≢◌, ◌≤◌, ◌⊎◌, ◌/◌, ◌%◌, ◌==◌, ◌&&◌, ℕ, Bool, List, [], ◌∷◌, ◌++◌, codes, bit_and}
+use Rattle.std.specs.Prelude.{if◌then◌else◌, length, slice_index, ◌<◌, ◌^◌}
 use Rattle.std.specs.Str.Parse.{AllDigits, digits_value}
 use Rattle.gixobj_tree_entries.specs.declared.entry_mode.EntryMode.{EntryMode}
 use Rattle.gixobj_tree_entries.specs.declared.entry_kind.EntryKind.{EntryKind}
-use Rattle.gixobj_tree_entries.specs.declared.entry_kind.EntryKind.TheVariants.{Tree, Blob, BlobExecutable, Link, Commit}
+use Rattle.gixobj_tree_entries.specs.declared.entry_kind.EntryKind.TheVariants.{Tree, Blob, BlobExecutable, Link}
+use Rattle.gixobj_tree_entries.specs.declared.entry_kind.EntryKind.TheVariants.{Commit}
 use Rattle.gixobj_hash.specs.Bytes.{digit, space}
 
 -- the internal number of a mode

@@ -1,5 +1,6 @@
 //! Decoding of single entries (gitdatamodel, "trees").
-ghost use Rattle.std.specs.Prelude.{◌≡◌, ◌≢◌, ◌≤◌, ◌<◌, ◌+◌, ◌∷◌, ℕ, IfNone, IfSome, List, MatchOption, drop, length, take};
+ghost use Rattle.std.specs.Prelude.{◌≡◌, ◌≢◌, ◌≤◌, ◌<◌, ◌+◌, ◌∷◌, ℕ, IfNone, IfSome, List, MatchOption, drop, length};
+ghost use Rattle.std.specs.Prelude.{take};
 ghost use Rattle.gixobj_hash.specs.Bytes.{space};
 ghost use Rattle.gixobj_hash.specs.Hash.{hash_len};
 ghost use Rattle.gixobj_hash.specs.Hash.Borrowed.{borrowed_id};

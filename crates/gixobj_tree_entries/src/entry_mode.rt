@@ -1,12 +1,17 @@
 //! The modes of tree entries: their encoding, their type bits and their kinds.
-ghost use Rattle.std.specs.Prelude.{◌≡◌, ◌≢◌, ◌++◌, slice_index, ◌≤◌, ◌↔◌, ◌+◌, ◌%◌, ℕ, List, [], ◌∷◌, IsTrue, IfSome, IfNone, length, ◌^◌, ◌⊎◌, not, take};
+ghost use Rattle.std.specs.Prelude.{◌≡◌, ◌≢◌, ◌++◌, slice_index, ◌≤◌, ◌↔◌, ◌+◌, ◌%◌, ℕ, List, [], ◌∷◌, IsTrue, IfSome};
+ghost use Rattle.std.specs.Prelude.{IfNone, length, ◌^◌, ◌⊎◌, not, take};
 ghost use Rattle.std.specs.Int.{from_be_bytes, w64};
 ghost use Rattle.std.specs.Option.{SomeIff};
 ghost use Rattle.std.specs.Str.Parse.{AllDigits, digits_value};
 ghost use Rattle.bstr.specs.BStr.{bstr_bytes};
 ghost use Rattle.gixobj_tree_entries.specs.declared.entry_kind.EntryKind.{EntryKind};
 ghost use Rattle.gixobj_hash.specs.ByteStrings.{IsByteFree};
-ghost use Rattle.gixobj_tree_entries.specs.Mode.{BeginsWithKind, BeginsWithMode, IsModeNumber, ObeysByteSix, EndsMode, blob_type, commit_type, entry_kind_name, is_tree_mode, kind_of_mode, link_type, mode_of_digits, mode_of_kind, encode_mode, mode_type, mode_value, tree_type, type_bits, is_blob_mode, is_commit_mode, is_link_mode, mode_bits};
+ghost use Rattle.gixobj_tree_entries.specs.Mode.{BeginsWithKind, BeginsWithMode, IsModeNumber, ObeysByteSix, EndsMode};
+ghost use Rattle.gixobj_tree_entries.specs.Mode.{blob_type, commit_type, entry_kind_name, is_tree_mode, kind_of_mode};
+ghost use Rattle.gixobj_tree_entries.specs.Mode.{link_type, mode_of_digits, mode_of_kind, encode_mode, mode_type};
+ghost use Rattle.gixobj_tree_entries.specs.Mode.{mode_value, tree_type, type_bits, is_blob_mode, is_commit_mode};
+ghost use Rattle.gixobj_tree_entries.specs.Mode.{is_link_mode, mode_bits};
 ghost use Rattle.gixobj_hash.specs.Bytes.{digit, space};
 
 use crate::EntryKind;

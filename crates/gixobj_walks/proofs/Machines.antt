@@ -1,5 +1,6 @@
 -- What a walk keeps, when it begins and when it is given a commit.
-use Rattle.std.proofs.Common.{◌≡◌, ◌∙◌, ◌++◌, ◌⊎◌, ◌↔◌, ℕ, ◌+◌, ◌-◌, ◌<◌, ◌≤◌, Bool, true, false, List, [], ◌∷◌, set, replicate, ⊎_elim, refl, sym, ap, subst, length, length-append, length-set, arith}
+use Rattle.std.proofs.Common.{◌≡◌, ◌∙◌, ◌++◌, ◌⊎◌, ◌↔◌, ℕ, ◌+◌, ◌-◌, ◌<◌, ◌≤◌, Bool, true, false, List, [], ◌∷◌, set, replicate, ⊎_elim, refl, sym, ap, subst}
+use Rattle.std.proofs.Common.{length, length-append, length-set, arith}
 use Rattle.std.proofs.lemmas.List.{length-replicate}
 use Rattle.std.specs.Prelude.{Option, Some, None, IsTrue, slice_get}
 use Rattle.std.specs.List.{AllByRecursion, AllZip}

@@ -1,5 +1,6 @@
 -- Lists of a walk: the numbers that are listed name a walk over what was given, and over each larger graph.
-use Rattle.std.proofs.Common.{◌≡◌, ◌≢◌, ◌∙◌, ◌⊎◌, ◌↔◌, ℕ, zero, suc, ◌<◌, Bool, List, [], ◌∷◌, get_or, map, ⊎_elim, inl, inr, refl, sym, ap, subst, length, arith}
+use Rattle.std.proofs.Common.{◌≡◌, ◌≢◌, ◌∙◌, ◌⊎◌, ◌↔◌, ℕ, zero, suc, ◌<◌, Bool, List, [], ◌∷◌, get_or, map, ⊎_elim, inl, inr, refl, sym, ap, subst, length}
+use Rattle.std.proofs.Common.{arith}
 use Rattle.std.proofs.lemmas.List.Elements.{Contains-get_or, recursion_from_All}
 use Rattle.std.proofs.lemmas.Option.{get_or_from_slice_get, slice_get-get_or}
 use Rattle.std.specs.Prelude.{Contains, Option, Some, slice_get}
@@ -26,7 +27,8 @@ use Rattle.gixobj_walks.proofs.GivenCommits.{same_names}
 use Rattle.gixobj_walks.proofs.Machines.{names_of_zip}
 use Rattle.gixobj_walks.proofs.NamedBases.{reaches_named}
 use Rattle.gixobj_walks.proofs.NamedEnds.{selected_named, selected_numbered}
-use Rattle.gixobj_walks.proofs.NamedPaths.{below_of_name, name_below, name_of_contained, name_unique, named_steps, numbered_parent, read_named, read_numbered, reached_named, reached_numbered}
+use Rattle.gixobj_walks.proofs.NamedPaths.{below_of_name, name_below, name_of_contained, name_unique, named_steps, numbered_parent, read_named, read_numbered}
+use Rattle.gixobj_walks.proofs.NamedPaths.{reached_named, reached_numbered}
 use Rattle.gixobj_walks.proofs.NamedWalks.{children_first_named, once_named, selected_are_named}
 use Rattle.gixobj_walks.proofs.WalkEnds.{walk_of_settled}
 use Rattle.gixobj_walks.specs.Machine.{IsWalking, WalkView, given_graph, names_of}

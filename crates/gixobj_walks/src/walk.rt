@@ -1,5 +1,6 @@
 //! A walk that requests the commits that it needs.
-ghost use Rattle.std.specs.Prelude.{◌≡◌, ◌↔◌, ◌⊎◌, ◌+◌, ◌++◌, ◌<◌, None, Some, [], ℕ, List, Option, IfErr, IfNone, IsTrue, IfOk, IfSome, IsSome, length, replicate};
+ghost use Rattle.std.specs.Prelude.{◌≡◌, ◌↔◌, ◌⊎◌, ◌+◌, ◌++◌, ◌<◌, None, Some, [], ℕ, List, Option, IfErr, IfNone};
+ghost use Rattle.std.specs.Prelude.{IsTrue, IfOk, IfSome, IsSome, length, replicate};
 ghost use Rattle.std.specs.List.{AllByRecursion};
 ghost use Rattle.gixobj_hash.specs.declared.hash.object_id.ObjectId.{ObjectId as Id};
 ghost use Rattle.gixobj_walks_graph.specs.Graph.{IsAcyclic, IsIncluded, NodeView};

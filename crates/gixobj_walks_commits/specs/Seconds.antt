@@ -1,6 +1,7 @@
 -- The seconds of a committer line, by which walks order commits (git-rev-list, "Commit Ordering"; git-commit-tree,
 -- "Commit Information").
-use Rattle.std.specs.Prelude.{◌≡◌, ◌-◌, ◌^◌, ◌%◌, ◌⊎◌, ◌||◌, ◌&&◌, ◌==◌, nat_le, nat_lt, ℕ, Bool, List, [], ◌∷◌, ◌++◌, IsFalse, if◌then◌else◌, ⊤}
+use Rattle.std.specs.Prelude.{◌≡◌, ◌-◌, ◌^◌, ◌%◌, ◌⊎◌, ◌||◌, ◌&&◌, ◌==◌, nat_le, nat_lt, ℕ, Bool, List, [], ◌∷◌, ◌++◌}
+use Rattle.std.specs.Prelude.{IsFalse, if◌then◌else◌, ⊤}
 use Rattle.std.specs.Char.{is_ascii_digit}
 use Rattle.std.specs.List.{AllPass}
 use Rattle.std.specs.Str.Parse.{IsNumeral, digits_value, starts_with_minus, without_leading_sign}

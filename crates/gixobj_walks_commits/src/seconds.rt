@@ -3,7 +3,8 @@ ghost use Rattle.std.specs.Prelude.{◌≡◌, ◌++◌, ◌<◌, ℕ, List};
 ghost use Rattle.std.specs.Char.{is_ascii_digit};
 ghost use Rattle.std.specs.List.{AllPass};
 ghost use Rattle.std.specs.Str.Parse.{IsNumeral, digits_value, starts_with_minus, without_leading_sign};
-ghost use Rattle.gixobj_walks_commits.specs.Seconds.{EndsRun, HasSeconds, in_64_bits, is_white_space as is_white_space_of};
+ghost use Rattle.gixobj_walks_commits.specs.Seconds.{EndsRun, HasSeconds, in_64_bits};
+ghost use Rattle.gixobj_walks_commits.specs.Seconds.{is_white_space as is_white_space_of};
 
 use gixobj_hash::split::{number_from_digits, split_at_byte};
 

@@ -11,7 +11,8 @@ use Rattle.gixobj_walks_marks.specs.Marks.{HasMarks}
 use Rattle.gixobj_walks_marks.specs.Settled.{IsBottom, IsSettledWalk, IsWanted}
 use Rattle.gixobj_walks_marks.proofs.Ends.{HaveBottoms, settled_walk_is_exact}
 use Rattle.gixobj_walks_marks.proofs.Marked.{marked_or_not, nothing_contained, one_contained, one_contains}
-use Rattle.gixobj_walks_marks.proofs.Paths.{ancestor_is_reached, ancestor_reaches, includes_path, reaches_itself, reaches_parent, reaches_transitively, step_reaches}
+use Rattle.gixobj_walks_marks.proofs.Paths.{ancestor_is_reached, ancestor_reaches, includes_path, reaches_itself, reaches_parent, reaches_transitively}
+use Rattle.gixobj_walks_marks.proofs.Paths.{step_reaches}
 
 -- ---- what can be decided
 

@@ -4,7 +4,9 @@ use Rattle.gixobj_walks_graph.specs.Bases.{IsCommon, IsMergeBase}
 use Rattle.gixobj_walks_graph.specs.Graph.{Graph, HasAncestor, IsAcyclic, IsFunctional, IsIncluded, IsRead, IsReachedFrom, LeadsTo, Reaches}
 use Rattle.gixobj_walks_graph.specs.Walks.{IsSelected}
 use Rattle.gixobj_walks_marks.specs.Settled.{IsBottom, IsCandidate, IsComplete, IsSettledBases, IsSettledWalk, IsWanted, IsWantedBase}
-use Rattle.gixobj_walks_marks.proofs.Paths.{ancestor_has_child, ancestor_is_reached, ancestor_reaches, first_unread, includes_parent, includes_reached, includes_reached_from, reached_from_reaches, reaches_ancestor, reaches_cases, reaches_itself, reaches_transitively, read_has_parent, step_reaches}
+use Rattle.gixobj_walks_marks.proofs.Paths.{ancestor_has_child, ancestor_is_reached, ancestor_reaches, first_unread, includes_parent, includes_reached}
+use Rattle.gixobj_walks_marks.proofs.Paths.{includes_reached_from, reached_from_reaches, reaches_ancestor, reaches_cases, reaches_itself, reaches_transitively}
+use Rattle.gixobj_walks_marks.proofs.Paths.{read_has_parent, step_reaches}
 
 -- ---- the complete end
 

@@ -1,5 +1,6 @@
 -- What is kept while commits are added, marked and read.
-use Rattle.std.proofs.Common.{◌≡◌, ◌≢◌, ◌⊎◌, ◌↔◌, ◌+◌, ◌<◌, ◌++◌, ℕ, Bool, true, false, List, [], ◌∷◌, Option, Some, None, Contains, IsTrue, drop, length, take, refl, subst, sym, ◌∙◌, inl, inr, arith, length-append}
+use Rattle.std.proofs.Common.{◌≡◌, ◌≢◌, ◌⊎◌, ◌↔◌, ◌+◌, ◌<◌, ◌++◌, ℕ, Bool, true, false, List, [], ◌∷◌, Option, Some, None, Contains, IsTrue, drop, length, take}
+use Rattle.std.proofs.Common.{refl, subst, sym, ◌∙◌, inl, inr, arith, length-append}
 use Rattle.std.specs.List.{AllByRecursion, slice_get}
 use Rattle.std.specs.List.Sorted.{IsPermutation}
 use Rattle.std.specs.Option.{is_some}
@@ -15,7 +16,8 @@ use Rattle.gixobj_walks_marks.specs.Queue.{IsTakenOut}
 use Rattle.gixobj_walks_marks.specs.Readings.{AddsStart, IsReading, IsUnread, KeepsMarks, PassesMark}
 use Rattle.gixobj_walks_marks.specs.Spreading.{MarksReached}
 use Rattle.gixobj_walks_marks.specs.declared.queue.Unread.{Unread}
-use Rattle.gixobj_walks_marks.proofs.Marked.{each_contained, from_each_contained, nothing_contained, one_contained, one_contains, same_or_other, slice_get-set_other, slice_get-set_same}
+use Rattle.gixobj_walks_marks.proofs.Marked.{each_contained, from_each_contained, nothing_contained, one_contained, one_contains, same_or_other}
+use Rattle.gixobj_walks_marks.proofs.Marked.{slice_get-set_other, slice_get-set_same}
 use Rattle.gixobj_walks_marks.proofs.Paths.{includes_reached, includes_reached_from, reached_from_reaches, reaches_itself, reaches_parent, reaches_transitively}
 use Rattle.gixobj_walks_marks.proofs.Queued.{queued_push, queued_read, reads_more, reads_push, slice_get-push_other, slice_get-pushed, taken_is_unread}
 use Rattle.gixobj_walks_marks.proofs.Spread.{closed_path}

@@ -1,5 +1,6 @@
 -- Settled walks and searches by their marks.
-use Rattle.std.proofs.Common.{◌≡◌, ◌⊎◌, ◌↔◌, ◌<◌, ℕ, Bool, List, [], ◌∷◌, Option, Some, None, Contains, IsTrue, get_or, length, refl, subst, sym, ap, ◌∙◌, inl, inr, arith}
+use Rattle.std.proofs.Common.{◌≡◌, ◌⊎◌, ◌↔◌, ◌<◌, ℕ, Bool, List, [], ◌∷◌, Option, Some, None, Contains, IsTrue, get_or, length, refl, subst, sym, ap, ◌∙◌, inl}
+use Rattle.std.proofs.Common.{inr, arith}
 use Rattle.std.specs.List.{AllByRecursion, slice_get}
 use Rattle.std.proofs.lemmas.Option.{none-some, same_Some, slice_get-get_or, slice_get_within}
 use Rattle.gixobj_walks_graph.specs.Graph.{Graph, IsRead, IsReachedFrom, NodeView, Reaches}

@@ -1,5 +1,6 @@
 -- Marks and candidates of two sides.
-use Rattle.std.proofs.Common.{◌≡◌, ◌⊎◌, ◌↔◌, ◌+◌, ◌<◌, ◌++◌, ℕ, Bool, true, List, [], ◌∷◌, Some, Contains, IsTrue, length, refl, subst, sym, ap, ◌∙◌, inl, inr, arith, length-append}
+use Rattle.std.proofs.Common.{◌≡◌, ◌⊎◌, ◌↔◌, ◌+◌, ◌<◌, ◌++◌, ℕ, Bool, true, List, [], ◌∷◌, Some, Contains, IsTrue, length, refl, subst, sym, ap, ◌∙◌, inl, inr}
+use Rattle.std.proofs.Common.{arith, length-append}
 use Rattle.std.specs.List.{slice_get}
 use Rattle.std.proofs.Math.ListN.{set}
 use Rattle.std.proofs.lemmas.List.{length-set}
@@ -9,7 +10,8 @@ use Rattle.gixobj_walks_graph.specs.Bases.{IsCommon}
 use Rattle.gixobj_walks_graph.specs.Graph.{HasParent, IsRead}
 use Rattle.gixobj_walks_graph.specs.Numbered.{IsMarked, Nodes, graph_at}
 use Rattle.gixobj_walks_graph.specs.Walks.{IsSelected}
-use Rattle.gixobj_walks_marks.specs.Chosen.{AddsMarks, AreWantedMarked, HasManyCandidates, HasMarkedChild, IsCandidateAt, IsChosen, IsShared, IsWantedAt, ListsBelow, MarksBelow, ReachesWanted}
+use Rattle.gixobj_walks_marks.specs.Chosen.{AddsMarks, AreWantedMarked, HasManyCandidates, HasMarkedChild, IsCandidateAt, IsChosen, IsShared, IsWantedAt}
+use Rattle.gixobj_walks_marks.specs.Chosen.{ListsBelow, MarksBelow, ReachesWanted}
 use Rattle.gixobj_walks_marks.specs.Marks.{HasMarks}
 use Rattle.gixobj_walks_marks.specs.Settled.{IsCandidate, IsSettledBases, IsWantedBase}
 use Rattle.gixobj_walks_marks.specs.Spreading.{parents_at}

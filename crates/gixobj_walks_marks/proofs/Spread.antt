@@ -1,12 +1,14 @@
 -- How marks go from a commit to what it reaches.
-use Rattle.std.proofs.Common.{◌≡◌, ◌⊎◌, ◌↔◌, ◌+◌, ◌<◌, ◌++◌, ℕ, zero, suc, Bool, true, false, List, [], ◌∷◌, Option, Some, None, Contains, length, get_or, refl, subst, sym, ap, ◌∙◌, inl, inr, arith, length-append}
+use Rattle.std.proofs.Common.{◌≡◌, ◌⊎◌, ◌↔◌, ◌+◌, ◌<◌, ◌++◌, ℕ, zero, suc, Bool, true, false, List, [], ◌∷◌, Option, Some, None, Contains, length, get_or, refl}
+use Rattle.std.proofs.Common.{subst, sym, ap, ◌∙◌, inl, inr, arith, length-append}
 use Rattle.std.specs.List.{slice_get}
 use Rattle.std.proofs.Math.ListN.{set}
 use Rattle.std.proofs.lemmas.List.Elements.{Contains-append_cases, Contains-append_left, Contains-append_right, Contains-push, Contains-push_cases}
 use Rattle.gixobj_walks_graph.specs.Graph.{HasParent, NodeView, LeadsTo, Reaches}
 use Rattle.gixobj_walks_graph.specs.Numbered.{IsClosed, IsMarked, Nodes, graph_at}
 use Rattle.gixobj_walks_marks.specs.Spreading.{Spreads, parents_at, parents_of}
-use Rattle.gixobj_walks_marks.proofs.Marked.{each_contained, from_each_contained, marked_within, nothing_contained, one_contained, one_contains, read_marked, set_cases, set_keeps, slice_get-set_same, unmarked_set}
+use Rattle.gixobj_walks_marks.proofs.Marked.{each_contained, from_each_contained, marked_within, nothing_contained, one_contained, one_contains, read_marked}
+use Rattle.gixobj_walks_marks.proofs.Marked.{set_cases, set_keeps, slice_get-set_same, unmarked_set}
 use Rattle.gixobj_walks_marks.proofs.Paths.{reaches_itself, reaches_parent, reaches_transitively}
 
 -- ---- one step

@@ -1,5 +1,6 @@
 -- What a walk has read and marked.
-use Rattle.std.specs.Prelude.{◌≡◌, ◌⊎◌, ◌↔◌, ◌++◌, ℕ, Bool, List, ◌∷◌, Option, Some, None, count_by, length, replicate, slice_get}
+use Rattle.std.specs.Prelude.{◌≡◌, ◌⊎◌, ◌↔◌, ◌++◌, ℕ, Bool, List, ◌∷◌, Option, Some, None, count_by, length, replicate}
+use Rattle.std.specs.Prelude.{slice_get}
 use Rattle.std.specs.Option.{is_some}
 use Rattle.gixobj_walks_graph.specs.Graph.{IsReachedFrom}
 use Rattle.gixobj_walks_graph.specs.Numbered.{AreParentsKnown, IsClosed, IsMarked, Nodes, graph_at}

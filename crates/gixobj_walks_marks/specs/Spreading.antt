@@ -1,5 +1,6 @@
 -- How marks go from a commit to what it reaches: a stack has the marked commits whose parents are still to be marked.
-use Rattle.std.specs.Prelude.{◌≡◌, ◌⊎◌, ◌↔◌, ◌+◌, ℕ, Bool, not, List, [], Option, Some, Contains, length, slice_get, count_by}
+use Rattle.std.specs.Prelude.{◌≡◌, ◌⊎◌, ◌↔◌, ◌+◌, ℕ, Bool, not, List, [], Option, Some, Contains, length, slice_get}
+use Rattle.std.specs.Prelude.{count_by}
 use Rattle.gixobj_walks_graph.specs.Graph.{IsReachedFrom, NodeView}
 use Rattle.gixobj_walks_graph.specs.Numbered.{IsMarked, Nodes, graph_at}
 

@@ -1,5 +1,6 @@
 //! What marks of two sides say of commits.
-ghost use Rattle.std.specs.Prelude.{◌≡◌, ◌<◌, ◌↔◌, ◌++◌, ◌∷◌, [], ℕ, Contains, IfOk, IsTrue, OnOk, if◌then◌else◌, length};
+ghost use Rattle.std.specs.Prelude.{◌≡◌, ◌<◌, ◌↔◌, ◌++◌, ◌∷◌, [], ℕ, Contains, IfOk, IsTrue, OnOk, if◌then◌else◌};
+ghost use Rattle.std.specs.Prelude.{length};
 ghost use Rattle.std.specs.List.{AllByRecursion};
 ghost use Rattle.gixobj_walks_graph.specs.Numbered.{AreParentsKnown, IsMarked};
 ghost use Rattle.gixobj_walks_marks.specs.Chosen.{AreWantedMarked, IsBottomAt, IsChosen, IsWantedAt, ListsBelow};

@@ -1,5 +1,6 @@
 -- When no commit waits, each selected one is listed, or some are ancestors of themselves.
-use Rattle.std.proofs.Common.{◌≡◌, ◌≢◌, ◌++◌, ◌<◌, ◌≤◌, ◌&&◌, ◌∙◌, ℕ, Bool, true, false, cond, zero, suc, List, [], ◌∷◌, Contains, Some, eqb, inr, refl, sym, ap, subst, ⊎_elim, arith, length, map, reverse, append_assoc}
+use Rattle.std.proofs.Common.{◌≡◌, ◌≢◌, ◌++◌, ◌<◌, ◌≤◌, ◌&&◌, ◌∙◌, ℕ, Bool, true, false, cond, zero, suc, List, [], ◌∷◌, Contains, Some, eqb, inr, refl, sym}
+use Rattle.std.proofs.Common.{ap, subst, ⊎_elim, arith, length, map, reverse, append_assoc}
 use Rattle.std.specs.List.{AllByRecursion, IsDistinct}
 use Rattle.std.proofs.lemmas.Bool.{and_parts, both_ways, cases_Bool, cases_eq, ne_eqb}
 use Rattle.std.proofs.lemmas.List.{length-reverse, reverse-append, reverse-reverse}

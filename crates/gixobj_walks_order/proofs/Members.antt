@@ -1,7 +1,8 @@
 -- What a list contains, and lists in which each element is once.
 use Rattle.std.proofs.Common.{◌≡◌, ◌≢◌, ◌⊎◌, ◌++◌, ◌∙◌, ◌+◌, length, List, [], ◌∷◌, Contains, inl, inr, refl, sym, ap, subst, ⊎_elim, arith}
 use Rattle.std.specs.List.{AllByRecursion}
-use Rattle.std.proofs.lemmas.List.Elements.{All-contains, All-from_recursion, Contains-append_cases, Contains-append_left, Contains-append_right, Contains-push_cases, Contains-push}
+use Rattle.std.proofs.lemmas.List.Elements.{All-contains, All-from_recursion, Contains-append_cases, Contains-append_left, Contains-append_right}
+use Rattle.std.proofs.lemmas.List.Elements.{Contains-push_cases, Contains-push}
 use Rattle.gixobj_walks_graph.specs.Graph.{AreOnce}
 
 pub contains_nothing : {V : Type 0} (x : V) → ¬ Contains [] x

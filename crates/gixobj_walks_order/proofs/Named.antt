@@ -1,5 +1,6 @@
 -- The parents of a commit that a loop has seen, and what it has counted of them.
-use Rattle.std.proofs.Common.{◌≡◌, ◌+◌, ◌-◌, ◌<◌, ◌||◌, ◌&&◌, ◌==◌, ℕ, zero, suc, not, Bool, true, false, cond, List, [], ◌∷◌, drop, length, refl, set, slice_index, sym, ap, take, ◌∙◌, subst, ⊎_elim, arith, nat_eq}
+use Rattle.std.proofs.Common.{◌≡◌, ◌+◌, ◌-◌, ◌<◌, ◌||◌, ◌&&◌, ◌==◌, ℕ, zero, suc, not, Bool, true, false, cond, List, [], ◌∷◌, drop, length, refl, set}
+use Rattle.std.proofs.Common.{slice_index, sym, ap, take, ◌∙◌, subst, ⊎_elim, arith, nat_eq}
 use Rattle.std.proofs.lemmas.Bool.{and_from, and_left, not_from_false, cases_eq, eq-eqb, ne_eqb, or_left, or_right}
 use Rattle.std.proofs.lemmas.List.{drop_more, length-set, get_or-set_other, get_or-set_same, take_more}
 use Rattle.std.proofs.lemmas.List.Folds.{list_any-append}

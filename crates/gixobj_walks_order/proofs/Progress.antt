@@ -5,7 +5,9 @@ use Rattle.gixobj_walks_graph.specs.Listing.{AreFirstReady, AreInsertedByDate, B
 use Rattle.gixobj_walks_graph.specs.declared.order.Order.{Order}
 use Rattle.gixobj_walks_graph.specs.declared.order.Order.TheVariants.{Date, Topological}
 use Rattle.gixobj_walks_order.specs.Progress.{IsComplete, IsProgress, all_of}
-use Rattle.gixobj_walks_order.proofs.Members.{AreInserted, IsInserted, absent_removed, all_inserted_cases, all_inserted_each, all_inserted_keeps, all_inserted_once, contains_cases, contains_decided, contains_here, contains_later, contains_nothing, each_from_contained, inserted_cases, inserted_itself, inserted_keeps, once_removed}
+use Rattle.gixobj_walks_order.proofs.Members.{AreInserted, IsInserted, absent_removed, all_inserted_cases, all_inserted_each, all_inserted_keeps}
+use Rattle.gixobj_walks_order.proofs.Members.{all_inserted_once, contains_cases, contains_decided, contains_here, contains_later, contains_nothing}
+use Rattle.gixobj_walks_order.proofs.Members.{each_from_contained, inserted_cases, inserted_itself, inserted_keeps, once_removed}
 
 -- ---- joining
 

@@ -1,5 +1,6 @@
 -- How the state changes when a commit is listed.
-use Rattle.std.proofs.Common.{◌≡◌, ◌++◌, ◌+◌, ◌<◌, ◌∙◌, ℕ, Bool, true, false, cond, List, [], ◌∷◌, Contains, Some, inl, inr, refl, sym, ap, subst, ⊎_elim, arith, length, map, reverse, set, slice_index}
+use Rattle.std.proofs.Common.{◌≡◌, ◌++◌, ◌+◌, ◌<◌, ◌∙◌, ℕ, Bool, true, false, cond, List, [], ◌∷◌, Contains, Some, inl, inr, refl, sym, ap, subst, ⊎_elim}
+use Rattle.std.proofs.Common.{arith, length, map, reverse, set, slice_index}
 use Rattle.std.specs.List.{AllByRecursion}
 use Rattle.std.proofs.lemmas.Bool.{and_from, both_ways, cases_eq}
 use Rattle.std.proofs.lemmas.List.{get_or-set_other, get_or-set_same, length-append, length-map, length-set, length_push, reverse-append}
@@ -15,7 +16,8 @@ use Rattle.gixobj_walks_order.specs.Progress.{IsComplete, IsProgress, IsStateAt,
 use Rattle.gixobj_walks_order.specs.Queues.{AreKeys, IsKey, waiting_of}
 use Rattle.gixobj_walks_order.specs.declared.queue.Key.{Key}
 use Rattle.gixobj_walks_order.specs.declared.queue.Queue.{Queue}
-use Rattle.gixobj_walks_order.proofs.Members.{all_inserted_length, contains_cases, contains_here, contains_later, each_contained, each_from_contained, inserted_itself}
+use Rattle.gixobj_walks_order.proofs.Members.{all_inserted_length, contains_cases, contains_here, contains_later, each_contained, each_from_contained}
+use Rattle.gixobj_walks_order.proofs.Members.{inserted_itself}
 use Rattle.gixobj_walks_order.proofs.Progress.{become_ready_is_ready, complete_more, joined_inserted, next_inserted, progress_more}
 use Rattle.gixobj_walks_order.proofs.Ready.{contains_named, count_less, freed_become_ready, named_contains, parents_of_named, some_above}
 

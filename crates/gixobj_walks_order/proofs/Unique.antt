@@ -3,7 +3,8 @@ use Rattle.std.proofs.Common.{◌≡◌, ◌++◌, ◌≤◌, ◌∙◌, List, [
 use Rattle.std.specs.List.{AllByRecursion}
 use Rattle.std.proofs.lemmas.List.{length_push, same_from_push}
 use Rattle.gixobj_walks_graph.specs.Graph.{Graph, IsFunctional, NodeView}
-use Rattle.gixobj_walks_graph.specs.Listing.{AreFirstReady, AreInsertedByDate, BecomeReady, IsInsertedByDate, IsListing, IsNext, IsNotOlder, IsOlder, Join, Lists, ListsAll, Waiting}
+use Rattle.gixobj_walks_graph.specs.Listing.{AreFirstReady, AreInsertedByDate, BecomeReady, IsInsertedByDate, IsListing, IsNext, IsNotOlder, IsOlder, Join}
+use Rattle.gixobj_walks_graph.specs.Listing.{Lists, ListsAll, Waiting}
 use Rattle.gixobj_walks_graph.specs.declared.order.Order.{Order}
 use Rattle.gixobj_walks_graph.specs.declared.order.Order.TheVariants.{Date, Topological}
 

@@ -1,5 +1,7 @@
 -- Counts of children, as the code that lists commits keeps them.
-use Rattle.std.specs.Prelude.{Contains, ◌⊎◌, ◌≡◌, ◌+◌, ◌<◌, ◌&&◌, ◌==◌, ℕ, zero, suc, Bool, true, false, not, List, [], ◌∷◌, Option, Some, None, if◌then◌else◌, length, nat_eq, slice_get, slice_index, slice_index_or}
+use Rattle.std.specs.Prelude.{Contains, ◌⊎◌, ◌≡◌, ◌+◌, ◌<◌, ◌&&◌, ◌==◌, ℕ, zero, suc, Bool, true, false, not, List, []}
+use Rattle.std.specs.Prelude.{◌∷◌, Option, Some, None, if◌then◌else◌, length, nat_eq, slice_get, slice_index}
+use Rattle.std.specs.Prelude.{slice_index_or}
 use Rattle.std.specs.List.{AllByRecursion, list_any}
 use Rattle.gixobj_walks_graph.specs.Graph.{IsRead, NodeView}
 use Rattle.gixobj_walks_graph.specs.Numbered.{IsMarked, Nodes, graph_at}

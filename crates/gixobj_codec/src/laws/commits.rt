@@ -1,6 +1,7 @@
 //! Laws on decoding, copying and encoding commits. [`commit_decode_encode_agree`] encodes, and its contract
 //! states what the call does; the other functions are empty, and their contract is the law.
-ghost use Rattle.std.specs.Prelude.{◌≡◌, ◌≢◌, ◌<◌, ◌+◌, ◌++◌, ℕ, All, IfErr, List, [], OnOk, Some, length, vec_capacity, vec_len};
+ghost use Rattle.std.specs.Prelude.{◌≡◌, ◌≢◌, ◌<◌, ◌+◌, ◌++◌, ℕ, All, IfErr, List, [], OnOk, Some, length};
+ghost use Rattle.std.specs.Prelude.{vec_capacity, vec_len};
 ghost use Rattle.std.specs.List.{AllPass};
 ghost use Rattle.gixobj_hash.specs.Hash.{is_lower_hex_digit};
 ghost use Rattle.gixobj_streams.specs.Streams.{SinkView, list_view};
@@ -11,7 +12,8 @@ ghost use Rattle.gixobj_hash.specs.declared.hash.kind.Kind.{Kind};
 ghost use Rattle.gixobj_grammar.specs.Commit.{CommitLines, DecodesToCommit};
 ghost use Rattle.gixobj_commit.specs.CommitOwned.{IsOwnedFormOfCommit, IsIntoOwnedCommitError};
 ghost use Rattle.gixobj_commit.specs.CommitViews.{commit_lines, owned_commit_lines};
-ghost use Rattle.gixobj_commit.specs.CommitWriting.{HasIds, IsCommitLinesError, IsOwnedCommitError, encode_commit, in_lower_case};
+ghost use Rattle.gixobj_commit.specs.CommitWriting.{HasIds, IsCommitLinesError, IsOwnedCommitError, encode_commit};
+ghost use Rattle.gixobj_commit.specs.CommitWriting.{in_lower_case};
 ghost use Rattle.gixobj_commit.specs.Rewriting.{AreNormalizedPartsOfCommit, IsNormalizedCommitError};
 ghost use Rattle.gixobj_commit.specs.declared.commit.Commit.{Commit};
 

@@ -9,7 +9,9 @@ ghost use Rattle.gixobj_text.specs.TrailerSteps.{is_owned, remaining_bytes};
 ghost use Rattle.gixobj_text.specs.MessageTrailers.{HasTrailerBlock};
 ghost use Rattle.gixobj_text.specs.SummaryPieces.{is_multiline};
 ghost use Rattle.gixobj_text.specs.Titles.{SplitsTitle, summary_of};
-ghost use Rattle.gixobj_text.specs.declared.commit.message.body.filters.Filter.TheVariants.{AssistedBy, Attributions, Authors, CoAuthoredBy, SignedOffBy};
+ghost use Rattle.gixobj_text.specs.declared.commit.message.body.filters.Filter.TheVariants.{AssistedBy, Attributions};
+ghost use Rattle.gixobj_text.specs.declared.commit.message.body.filters.Filter.TheVariants.{Authors, CoAuthoredBy};
+ghost use Rattle.gixobj_text.specs.declared.commit.message.body.filters.Filter.TheVariants.{SignedOffBy};
 ghost use Rattle.gixobj_hash.specs.Optional.{bytes_if_some};
 
 use crate::commit::CommitRef;

@@ -1,7 +1,10 @@
 //! Signing of commits (gitformat-signature, "Commit signatures").
 ghost use Rattle.std.specs.Prelude.{◌≡◌, IfErr, IfOk, OnOk};
 ghost use Rattle.bstr.specs.Owned.{bstring_bytes};
-ghost use Rattle.gixobj_commit.specs.CommitSigning.{GetsCommitSignature, IsSignedCommit, IsSignedCommitCopy, IsCommitSigningError, IsCommitCopySigningError, IsCommitEncodingError, is_header_named, with_last_header, without_headers};
+ghost use Rattle.gixobj_commit.specs.CommitSigning.{GetsCommitSignature, IsSignedCommit, IsSignedCommitCopy};
+ghost use Rattle.gixobj_commit.specs.CommitSigning.{IsCommitSigningError, IsCommitCopySigningError};
+ghost use Rattle.gixobj_commit.specs.CommitSigning.{IsCommitEncodingError, is_header_named, with_last_header};
+ghost use Rattle.gixobj_commit.specs.CommitSigning.{without_headers};
 ghost use Rattle.gixobj_commit.specs.CommitViews.{commit_lines, owned_commit_lines};
 ghost use Rattle.gixobj_commit.specs.CommitWriting.{HasIds, IsOwnedCommitError, encode_commit};
 ghost use Rattle.gixobj_parse.specs.HeaderReading.{owned_header_of};

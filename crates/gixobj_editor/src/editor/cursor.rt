@@ -9,7 +9,8 @@ ghost use Rattle.gixobj_editor_write.specs.Calls.{IsCallableOnTrees, answered, d
 ghost use Rattle.gixobj_editor_write.specs.WriteErrors.{IsWriteError};
 ghost use Rattle.gixobj_editor_lookups.specs.Openings.{OfTrees};
 ghost use Rattle.gixobj_editor_lookups.specs.EditNames.{from_root, StartsInvalid};
-ghost use Rattle.gixobj_editor.specs.Cursors.{IsEnsured, IsFailedCursorIn, IsWrittenBelow, IsErrorBelow, IsCursorError, cursor_path};
+ghost use Rattle.gixobj_editor.specs.Cursors.{IsEnsured, IsFailedCursorIn, IsWrittenBelow, IsErrorBelow, IsCursorError};
+ghost use Rattle.gixobj_editor.specs.Cursors.{cursor_path};
 ghost use Rattle.gixobj_editor.specs.Removals.{IsLeafRemoved, IsRemoved, IsLeafRemovalError, IsRemovalError};
 ghost use Rattle.gixobj_editor.specs.Upserts.{IsNameError, IsUpserted, IsErrorIn, IsUpsertError};
 ghost use Rattle.gixobj_editor.specs.FailedEdits.{HasCountedIn, IsFailedEditIn};

@@ -6,7 +6,8 @@ ghost use Rattle.gix_object.specs.MessageTrailers.{HasTrailers};
 ghost use Rattle.gix_object.specs.Titles.{SplitsTitle};
 ghost use Rattle.gix_object.specs.TrailerBlocks.{IsTrailerBlockStart};
 ghost use Rattle.gix_object.specs.Trailers.{TrailerView};
-ghost use Rattle.gixobj_examples_objects.specs.Assembled.{IsLineTrailer, IsTitleLine, assembled_message, described_body, described_message, trailer_body};
+ghost use Rattle.gixobj_examples_objects.specs.Assembled.{IsLineTrailer, IsTitleLine, assembled_message};
+ghost use Rattle.gixobj_examples_objects.specs.Assembled.{described_body, described_message, trailer_body};
 
 use gix_object::laws::trailer_line_decodes;
 

@@ -1,10 +1,12 @@
 //! Owned object ids.
-ghost use Rattle.std.specs.Prelude.{◌≡◌, ◌↔◌, ◌<◌, ◌≤◌, Some, true, ◌*◌, [], length, IsSome, IfSome, IsTrue, IsOk, IfErr, OnOk, refl};
+ghost use Rattle.std.specs.Prelude.{◌≡◌, ◌↔◌, ◌<◌, ◌≤◌, Some, true, ◌*◌, [], length, IsSome, IfSome, IsTrue, IsOk};
+ghost use Rattle.std.specs.Prelude.{IfErr, OnOk, refl};
 ghost use Rattle.std.specs.List.{AllPass};
 ghost use Rattle.hex.specs.Hex.{decode_of, hex_digit_value, is_hex_digit};
 ghost use Rattle.std.specs.Io.KnownBytes.{Appends};
 ghost use Rattle.std.proofs.Common.{rules};
-ghost use Rattle.gixobj_hash.specs.Hash.{IsIdHex, IsNull, DecodesToId, hash_len, encode_id_hex, id_bytes, id_kind, id_of, null_id};
+ghost use Rattle.gixobj_hash.specs.Hash.{IsIdHex, IsNull, DecodesToId, hash_len, encode_id_hex, id_bytes, id_kind};
+ghost use Rattle.gixobj_hash.specs.Hash.{id_of, null_id};
 ghost use Rattle.gixobj_hash.specs.Hash.Borrowed.{borrowed_id};
 ghost use Rattle.gixobj_hash.specs.Hash.Order.{id_cmp};
 ghost use Rattle.gixobj_hash.specs.Hash.OrderLaws.{id_alike, id_cmp_total, id_partial_order, id_ties};

@@ -4,7 +4,10 @@ ghost use Rattle.std.specs.Option.{option_map};
 ghost use Rattle.bstr.specs.Owned.{bstring_bytes};
 ghost use Rattle.gixobj_signature_reports.specs.Calls.{answer_view, output_view};
 ghost use Rattle.gixobj_signature.specs.Plans.{AllocatesForCalls};
-ghost use Rattle.gixobj_signature.specs.Signing.{IsFailed, Signs, confirms, gpg_plan, gpg_signed, is_return_before, written_signature, literal_key, not_run_view, sign_options_view, sign_plan, sign_view, signer_error, ssh_plan, ssh_signed, without_returns};
+ghost use Rattle.gixobj_signature.specs.Signing.{IsFailed, Signs, confirms, gpg_plan, gpg_signed, is_return_before};
+ghost use Rattle.gixobj_signature.specs.Signing.{written_signature, literal_key, not_run_view, sign_options_view};
+ghost use Rattle.gixobj_signature.specs.Signing.{sign_plan, sign_view, signer_error, ssh_plan, ssh_signed};
+ghost use Rattle.gixobj_signature.specs.Signing.{without_returns};
 
 mod calls;
 

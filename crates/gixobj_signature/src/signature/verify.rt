@@ -1,7 +1,8 @@
 //! Verification of signatures by external programs.
 ghost use Rattle.std.specs.Prelude.{◌≡◌, Some};
 ghost use Rattle.gixobj_signature.specs.SignedBytes.{signed_bytes};
-ghost use Rattle.gixobj_signature.specs.Verifiers.{by_open_pgp, by_ssh, by_x509, verify_options_view, program_of, ssh_of, ssh_program_of, verifier_view};
+ghost use Rattle.gixobj_signature.specs.Verifiers.{by_open_pgp, by_ssh, by_x509, verify_options_view, program_of};
+ghost use Rattle.gixobj_signature.specs.Verifiers.{ssh_of, ssh_program_of, verifier_view};
 ghost use Rattle.gixobj_signature.specs.Plans.{AllocatesForCalls};
 ghost use Rattle.gixobj_signature.specs.Verifying.{WasCalled, IsOutcomeOf, Verifies, verify_plan, verify_view};
 ghost use Rattle.gixobj_signature_reports.specs.Calls.{call_view};

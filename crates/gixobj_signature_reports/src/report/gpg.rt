@@ -3,10 +3,14 @@ ghost use Rattle.std.specs.Prelude.{◌≡◌, ◌≢◌, [], ◌∷◌, IfOk, N
 ghost use Rattle.std.specs.List.{filter_map};
 ghost use Rattle.std.specs.Option.{option_map};
 ghost use Rattle.bstr.specs.Owned.{bstring_bytes};
-ghost use Rattle.gixobj_signature_reports.specs.Fields.{after_prefix, after_space, either, field_at, fields_of, first_token, unless_empty};
-ghost use Rattle.gixobj_signature_reports.specs.GpgReports.{error_status_of, reported_fields, gpg_report, reported_names, status_of, status_lines, trust_in, reported_trust, valid_fields, verdict, with_status};
+ghost use Rattle.gixobj_signature_reports.specs.Fields.{after_prefix, after_space, either, field_at, fields_of};
+ghost use Rattle.gixobj_signature_reports.specs.Fields.{first_token, unless_empty};
+ghost use Rattle.gixobj_signature_reports.specs.GpgReports.{error_status_of, reported_fields, gpg_report};
+ghost use Rattle.gixobj_signature_reports.specs.GpgReports.{reported_names, status_of, status_lines, trust_in};
+ghost use Rattle.gixobj_signature_reports.specs.GpgReports.{reported_trust, valid_fields, verdict, with_status};
 ghost use Rattle.gixobj_signature_reports.specs.Outcomes.{copied_strings, no_strings, outcome_view};
-ghost use Rattle.gixobj_signature_reports.specs.StatusLines.{HasOneMore, after_spaces, reported_view, status_view, status_after, line_status, verdict_of};
+ghost use Rattle.gixobj_signature_reports.specs.StatusLines.{HasOneMore, after_spaces, reported_view, status_view};
+ghost use Rattle.gixobj_signature_reports.specs.StatusLines.{status_after, line_status, verdict_of};
 ghost use Rattle.gixobj_signature_reports.specs.Trust.{or_undefined, trust_of};
 
 use super::{Outcome, Status, TrustLevel};

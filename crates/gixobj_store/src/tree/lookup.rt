@@ -1,11 +1,13 @@
 //! Lookup of tree entries by name, in one tree or along a path through the trees of a store.
-ghost use Rattle.std.specs.Prelude.{◌≡◌, ◌≢◌, ◌∷◌, ℕ, [], IfErr, IfNone, IfOk, IfSome, IsSome, List, MatchBool, None, OnErr, Some, drop, map};
+ghost use Rattle.std.specs.Prelude.{◌≡◌, ◌≢◌, ◌∷◌, ℕ, [], IfErr, IfNone, IfOk, IfSome, IsSome, List, MatchBool, None};
+ghost use Rattle.std.specs.Prelude.{OnErr, Some, drop, map};
 ghost use Rattle.std.specs.Option.{option_map};
 ghost use Rattle.std.specs.declared.ops.ControlFlow.TheVariants.{Break};
 ghost use Rattle.bstr.specs.Owned.{bstring_bytes};
 ghost use Rattle.gixobj_hash.specs.Bytes.{slash};
 ghost use Rattle.gixobj_store.specs.EntrySteps.{remaining_tree_bytes};
-ghost use Rattle.gixobj_store.specs.Lookups.{AreNamesOf, HasFirstNamed, HasNoEntryNamed, IsAtPath, IsStep, IsStepInBytes, Name, IsPathError, SplitsName, remaining_tree};
+ghost use Rattle.gixobj_store.specs.Lookups.{AreNamesOf, HasFirstNamed, HasNoEntryNamed, IsAtPath, IsStep};
+ghost use Rattle.gixobj_store.specs.Lookups.{IsStepInBytes, Name, IsPathError, SplitsName, remaining_tree};
 ghost use Rattle.gixobj_store.specs.Stores.{stored};
 ghost use Rattle.gixobj_hash.specs.declared.kind.Kind.TheVariants as object;
 ghost use Rattle.gixobj_tree_entries.specs.EntryViews.{entry_view};

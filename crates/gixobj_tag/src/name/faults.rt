@@ -2,7 +2,8 @@
 ghost use Rattle.std.specs.Prelude.{◌≡◌, ◌↔◌, IsTrue, MatchOption};
 ghost use Rattle.gixobj_streams.specs.declared.encode.RefNameFault.TheVariants as fault;
 ghost use Rattle.gixobj_tag.specs.NameRule.{HasFault, HasNoFault, IsFirstFault, IsForbidden};
-ghost use Rattle.gixobj_tag.specs.PlainNames.{IsDotted, IsPlainName, is_plain_byte as is_plain_byte_of, may_follow as may_follow_of};
+ghost use Rattle.gixobj_tag.specs.PlainNames.{IsDotted, IsPlainName, is_plain_byte as is_plain_byte_of};
+ghost use Rattle.gixobj_tag.specs.PlainNames.{may_follow as may_follow_of};
 
 use bstr::ByteSlice;
 use gixobj_encode::encode::RefNameFault;

@@ -1,5 +1,6 @@
 //! Writing of tags (gitdatamodel, "tag objects"; git-check-ref-format, "DESCRIPTION").
-ghost use Rattle.std.specs.Prelude.{◌≡◌, ◌↔◌, ◌<◌, ◌≤◌, ◌+◌, ◌^◌, ◌++◌, ◌∷◌, [], codes, length, IfErr, IfOk, IsOk, OnOk};
+ghost use Rattle.std.specs.Prelude.{◌≡◌, ◌↔◌, ◌<◌, ◌≤◌, ◌+◌, ◌^◌, ◌++◌, ◌∷◌, [], codes, length, IfErr, IfOk, IsOk};
+ghost use Rattle.std.specs.Prelude.{OnOk};
 ghost use Rattle.std.specs.Option.{SomeIff};
 ghost use Rattle.bstr.specs.BStr.{bstr_bytes};
 ghost use Rattle.gixobj_hash.specs.FieldFormat.{encode_field, encode_line};
@@ -7,7 +8,8 @@ ghost use Rattle.gixobj_streams.specs.Streams.{AppendsAll, AppendsOrFails};
 ghost use Rattle.gixobj_streams.specs.Writing.{AddsSize, IsSize, IsWritingError, LacksRoom, RejectsNothing};
 ghost use Rattle.gixobj_tag.specs.NameRule.{IsTagName, IsTagNameError};
 ghost use Rattle.gixobj_tag.specs.TagFormat.{encode_target_lines};
-ghost use Rattle.gixobj_tag.specs.TagWriting.{IsNameLineError, IsTagPartsError, encode_body, encode_message, encode_tag_parts, encode_signature};
+ghost use Rattle.gixobj_tag.specs.TagWriting.{IsNameLineError, IsTagPartsError, encode_body, encode_message};
+ghost use Rattle.gixobj_tag.specs.TagWriting.{encode_tag_parts, encode_signature};
 ghost use Rattle.gixobj_hash.specs.Bytes.{newline};
 ghost use Rattle.gixobj_hash.specs.Kind.{kind_name};
 ghost use Rattle.gixobj_hash.specs.Optional.{bytes_if_some};

@@ -1,5 +1,6 @@
 //! Title, body, summary and trailers of commit messages (git-commit, "DISCUSSION"; git-interpret-trailers).
-ghost use Rattle.std.specs.Prelude.{◌≡◌, ◌≤◌, [], IfErr, IfOk, IfNone, IfSome, MatchOption, None, drop, length, take, true};
+ghost use Rattle.std.specs.Prelude.{◌≡◌, ◌≤◌, [], IfErr, IfOk, IfNone, IfSome, MatchOption, None, drop, length, take};
+ghost use Rattle.std.specs.Prelude.{true};
 ghost use Rattle.std.specs.Cow.{cow_slice_items};
 ghost use Rattle.bstr.specs.BStr.{bstr_bytes};
 ghost use Rattle.bstr.specs.Text.{lines_of};

@@ -3,7 +3,9 @@ ghost use Rattle.std.specs.Prelude.{IfErr, IfOk};
 ghost use Rattle.bstr.specs.BStr.{bstr_bytes};
 ghost use Rattle.gixobj_actor.specs.Actor.{actor_view};
 ghost use Rattle.gixobj_tokens.specs.CommitTokenSteps.{NextIdOfCommit};
-ghost use Rattle.gixobj_tokens.specs.TokenSearch.{FindsAuthor, FindsCommitter, FindsMessage, EndsSearch, optional_error, required_error, IsAuthorToken, IsCommitterToken, IsMessageToken};
+ghost use Rattle.gixobj_tokens.specs.TokenSearch.{FindsAuthor, FindsCommitter, FindsMessage, EndsSearch};
+ghost use Rattle.gixobj_tokens.specs.TokenSearch.{optional_error, required_error, IsAuthorToken, IsCommitterToken};
+ghost use Rattle.gixobj_tokens.specs.TokenSearch.{IsMessageToken};
 
 use super::CommitRefIter;
 use bstr::BStr;

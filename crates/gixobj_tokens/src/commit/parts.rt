@@ -2,8 +2,10 @@
 ghost use Rattle.std.specs.Prelude.{◌≡◌, MatchOption};
 ghost use Rattle.bstr.specs.BStr.{bstr_bytes};
 ghost use Rattle.gixobj_actor.specs.Actor.{actor_view};
-ghost use Rattle.gixobj_tokens.specs.CommitTokens.{author_token, committer_token, message_token, parent_token, commit_token_view};
-ghost use Rattle.gixobj_tokens.specs.TokenSearch.{IsActorToken, IsActorTokenOf, IsAuthorToken, IsCommitterToken, IsMessageToken, IsParentToken};
+ghost use Rattle.gixobj_tokens.specs.CommitTokens.{author_token, committer_token, message_token, parent_token};
+ghost use Rattle.gixobj_tokens.specs.CommitTokens.{commit_token_view};
+ghost use Rattle.gixobj_tokens.specs.TokenSearch.{IsActorToken, IsActorTokenOf, IsAuthorToken, IsCommitterToken};
+ghost use Rattle.gixobj_tokens.specs.TokenSearch.{IsMessageToken, IsParentToken};
 
 use super::Token;
 use bstr::BStr;

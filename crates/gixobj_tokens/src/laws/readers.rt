@@ -16,7 +16,9 @@ ghost use Rattle.gixobj_tokens.specs.CommitTokens.{CommitTokenView, commit_token
 ghost use Rattle.gixobj_tokens.specs.Readers.{AreTokensOfCommit, EndsInMessage};
 ghost use Rattle.gixobj_tokens.specs.TokenFilters.{NextParent, parents_reader};
 ghost use Rattle.gixobj_tokens.specs.CommitTokenSteps.{NextCommitToken, NextIdOfCommit, IsAtStartOfCommit};
-ghost use Rattle.gixobj_tokens.specs.TokenSearch.{FindsAuthor, FindsCommitter, FindsMessage, EndsSearch, optional_error, required_error, HasConsumedCommitTokens, IsAuthorToken, IsCommitterToken, IsMessageToken};
+ghost use Rattle.gixobj_tokens.specs.TokenSearch.{FindsAuthor, FindsCommitter, FindsMessage, EndsSearch};
+ghost use Rattle.gixobj_tokens.specs.TokenSearch.{optional_error, required_error, HasConsumedCommitTokens};
+ghost use Rattle.gixobj_tokens.specs.TokenSearch.{IsAuthorToken, IsCommitterToken, IsMessageToken};
 ghost use Rattle.gixobj_tokens.specs.declared.commit.CommitRefIter.{CommitRefIter};
 ghost use Rattle.gixobj_grammar.specs.declared.lines.State.TheVariants as state;
 ghost use Rattle.gixobj_tokens.specs.declared.commit.Token.{Token};

@@ -3,7 +3,8 @@ ghost use Rattle.std.specs.Prelude.{◌≡◌, ◌↔◌, IsTrue};
 ghost use Rattle.std.specs.Cmp.Lexicographic.{slice_cmp};
 ghost use Rattle.std.specs.Ordering.{nat_cmp};
 ghost use Rattle.gixobj_tree_entries.specs.KeyOrder.{ComesBefore, entry_key, key_of};
-ghost use Rattle.gixobj_tree.specs.WellFormed.{AreApart, EachLater, HasKey, HasNamesake, HaveEntryNames, IsEntryName, IsWellFormed};
+ghost use Rattle.gixobj_tree.specs.WellFormed.{AreApart, EachLater, HasKey, HasNamesake, HaveEntryNames, IsEntryName};
+ghost use Rattle.gixobj_tree.specs.WellFormed.{IsWellFormed};
 
 use super::{Entry, Tree};
 use gixobj_hash::split::has_byte;

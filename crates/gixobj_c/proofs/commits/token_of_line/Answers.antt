@@ -1,6 +1,7 @@
 -- The positions follow from the numbers of the bytes after each value.
 use Rattle.std.proofs.Common.{refl}
-use Rattle.gixobj_c.proofs.Lines.{author_value, committer_value, encoding_value, header_of_line, is_token_of_same_line, line_of_variant, message_value, parent_value, tree_value}
+use Rattle.gixobj_c.proofs.Lines.{author_value, committer_value, encoding_value, header_of_line, is_token_of_same_line, line_of_variant, message_value}
+use Rattle.gixobj_c.proofs.Lines.{parent_value, tree_value}
 use Rattle.gixobj_c.proofs.commits.token_of_line.Goals as goal
 
 pub one_line-requires : goal.one_line-requires

@@ -1,4 +1,5 @@
-use Rattle.std.proofs.Common.{arith, ◌≡◌, ◌≤◌, ◌∙◌, ◌+◌, ◌<◌, suc, ◌∷◌, ◌++◌, drop, is_ok, length, length-append, true, sym, ap, subst, add-one, append_assoc, drop-cons}
+use Rattle.std.proofs.Common.{arith, ◌≡◌, ◌≤◌, ◌∙◌, ◌+◌, ◌<◌, suc, ◌∷◌, ◌++◌, drop, is_ok, length, length-append, true, sym, ap, subst, add-one, append_assoc}
+use Rattle.std.proofs.Common.{drop-cons}
 use Rattle.std.specs.Prelude.{slice_set, vec_capacity, vec_len}
 use Rattle.std.specs.List.{flat_map}
 use Rattle.std.proofs.lemmas.List.{drop-set-lt}

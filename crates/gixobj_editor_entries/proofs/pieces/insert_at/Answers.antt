@@ -7,7 +7,8 @@ use Rattle.std.proofs.lemmas.List.{get_or_default}
 use Rattle.std.proofs.lemmas.List.Sums.{prefix_len-le-length}
 use Rattle.gixobj_editor_entries.specs.Pieces.{HasGap, HoldsAtPiece, IsAscending, begins_at_most, item_key, other_key, with_item}
 use Rattle.gixobj_editor_entries.proofs.Neighbours.{find_none_about_first, find_none_about_more}
-use Rattle.gixobj_editor_entries.proofs.Joined.{are_non_empty_set, each_later_in_piece, holds_at_index, is_pieced_of_with_item, length_joined_longer, with_item_joined_first, with_item_joined_more, with_item_ne_nil}
+use Rattle.gixobj_editor_entries.proofs.Joined.{are_non_empty_set, each_later_in_piece, holds_at_index, is_pieced_of_with_item, length_joined_longer}
+use Rattle.gixobj_editor_entries.proofs.Joined.{with_item_joined_first, with_item_joined_more, with_item_ne_nil}
 use Rattle.gixobj_editor_entries.proofs.Keys.{is_ascending_of_append_left, is_ascending_of_append_right}
 use Rattle.gixobj_editor_entries.proofs.pieces.insert_at.Goals as goal
 

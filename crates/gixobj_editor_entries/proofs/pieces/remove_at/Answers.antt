@@ -6,7 +6,8 @@ use Rattle.std.proofs.lemmas.List.{get_or_default}
 use Rattle.std.proofs.lemmas.List.Sums.{prefix_len-le-length}
 use Rattle.gixobj_tree_entries.specs.KeyOrder.{key_of}
 use Rattle.gixobj_editor_entries.specs.Pieces.{AreNonEmpty, IsAscending, begins_at_most, item_key, joined, without_key}
-use Rattle.gixobj_editor_entries.proofs.Joined.{are_non_empty_remove, are_non_empty_set, each_later_in_piece, flat_map_remove_empty, is_pieced_of_without_key, length_joined_shorter, without_key_joined_first, without_key_joined_more}
+use Rattle.gixobj_editor_entries.proofs.Joined.{are_non_empty_remove, are_non_empty_set, each_later_in_piece, flat_map_remove_empty, is_pieced_of_without_key}
+use Rattle.gixobj_editor_entries.proofs.Joined.{length_joined_shorter, without_key_joined_first, without_key_joined_more}
 use Rattle.gixobj_editor_entries.proofs.Keys.{is_ascending_of_append_left, is_ascending_of_append_right}
 use Rattle.gixobj_editor_entries.proofs.pieces.remove_at.Goals as goal
 

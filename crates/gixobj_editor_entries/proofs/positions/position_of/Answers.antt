@@ -8,7 +8,8 @@ use Rattle.gixobj_tree_entries.specs.KeyOrder.{key_of}
 use Rattle.gixobj_editor_entries.specs.Pieces.{IsAscending, IsPosition, begins_at_most, flat_index, has_key, item_key, joined}
 use Rattle.gixobj_editor_entries.proofs.Joined.{each_later_in_piece, find_joined_first, find_joined_more}
 use Rattle.gixobj_editor_entries.proofs.Keys.{is_ascending_of_append_left, is_ascending_of_append_right}
-use Rattle.gixobj_editor_entries.proofs.FlatIndices.{if_none_weaker, if_some_of_three, position_joined_first_of_held, position_joined_more_of_held, position_none_of_find}
+use Rattle.gixobj_editor_entries.proofs.FlatIndices.{if_none_weaker, if_some_of_three, position_joined_first_of_held, position_joined_more_of_held}
+use Rattle.gixobj_editor_entries.proofs.FlatIndices.{position_none_of_find}
 use Rattle.gixobj_editor_entries.proofs.positions.position_of.Goals as goal
 
 pub returns-then-is_past_end-clause-none : goal.returns-then-is_past_end-clause-none

@@ -21,7 +21,8 @@ use Rattle.gixobj_editor_lookups.specs.declared.error.Error.{Error}
 use Rattle.gixobj_editor_lookups.proofs.NamedTrees.{trees_of_objects_exist}
 use Rattle.gixobj_editor_lookups.proofs.OpeningSteps.{ends_before_is_idle}
 use Rattle.gixobj_editor_lookups.proofs.OpeningsBelow.{from_root_filled, opened_above_in_part, opened_for_nothing, splits_from_root}
-use Rattle.gixobj_editor_lookups.proofs.Removing.{IsOpenedFor, halted_removal, halted_removal_counts, is_opened_for_of_opens, name_rejected_so, no_halt, nothing_validated, opened_above_counts, opens_nothing}
+use Rattle.gixobj_editor_lookups.proofs.Removing.{IsOpenedFor, halted_removal, halted_removal_counts, is_opened_for_of_opens, name_rejected_so, no_halt}
+use Rattle.gixobj_editor_lookups.proofs.Removing.{nothing_validated, opened_above_counts, opens_nothing}
 use Rattle.gixobj_editor_lookups.proofs.ValidNames.{no_memory_of_name}
 use Rattle.gixobj_editor_lookups.proofs.below.open_for_removal_below.Goals as goal
 

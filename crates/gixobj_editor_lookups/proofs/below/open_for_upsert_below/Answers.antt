@@ -12,7 +12,9 @@ use Rattle.gixobj_editor_lookups.specs.FailedOpenings.{IsLookupError, OpensInPar
 use Rattle.gixobj_editor_lookups.specs.UpsertErrors.{IsCursorEditError, IsNameError, IsUpsertError}
 use Rattle.gixobj_editor_lookups.specs.declared.error.Error.{Error}
 use Rattle.gixobj_editor_lookups.proofs.InPart.{halted_counts, halted_in_part, none_in_part}
-use Rattle.gixobj_editor_lookups.proofs.OpeningsBelow.{are_names_from_root, ends_of_names, first_name_error_from_root, from_root_filled, from_root_snoc, no_name_error_of_memory, no_name_error_of_opening, opened_above_in_part, upsert_error_of_halt, upsert_error_of_name}
+use Rattle.gixobj_editor_lookups.proofs.OpeningsBelow.{are_names_from_root, ends_of_names, first_name_error_from_root, from_root_filled, from_root_snoc}
+use Rattle.gixobj_editor_lookups.proofs.OpeningsBelow.{no_name_error_of_memory, no_name_error_of_opening, opened_above_in_part, upsert_error_of_halt}
+use Rattle.gixobj_editor_lookups.proofs.OpeningsBelow.{upsert_error_of_name}
 use Rattle.gixobj_editor_lookups.proofs.Paths.{directory_of_snoc}
 use Rattle.gixobj_editor_lookups.proofs.Removing.{opened_above_counts}
 use Rattle.gixobj_editor_lookups.proofs.ValidNames.{no_lookup_of_name, no_memory_of_name}

@@ -15,7 +15,10 @@ use Rattle.gixobj_editor_open.specs.declared.open.Child.{Child}
 use Rattle.gixobj_editor_open.proofs.Results.{if_err_weaken}
 use Rattle.gixobj_editor_open.proofs.Levels.{dirs_of_nil, all_names_differ, in_part_none}
 use Rattle.gixobj_editor_open.proofs.Pieces.{IsFound, is_changed, is_child, is_pieced_level_with_open}
-use Rattle.gixobj_editor_lookups.proofs.OpeningSteps.{HaltsAt, IsFormedList, OpensAs, StaysOpened, counted_append, down_in, found_in, halts_at_goes_down, halts_at_goes_in, stops_opening_here, is_level_of_new_child, stops_opening_for_memory, stops_opening_not_found, opens_goes_down, opens_goes_in, stays_opened_goes_down, stays_opened_goes_in, is_opened_after_opening, opens_stopped_here}
+use Rattle.gixobj_editor_lookups.proofs.OpeningSteps.{HaltsAt, IsFormedList, OpensAs, StaysOpened, counted_append, down_in, found_in, halts_at_goes_down}
+use Rattle.gixobj_editor_lookups.proofs.OpeningSteps.{halts_at_goes_in, stops_opening_here, is_level_of_new_child, stops_opening_for_memory}
+use Rattle.gixobj_editor_lookups.proofs.OpeningSteps.{stops_opening_not_found, opens_goes_down, opens_goes_in, stays_opened_goes_down, stays_opened_goes_in}
+use Rattle.gixobj_editor_lookups.proofs.OpeningSteps.{is_opened_after_opening, opens_stopped_here}
 use Rattle.gixobj_editor_open.proofs.Steps.{names_of_nil}
 use Rattle.gixobj_tree_entries.specs.Entries.{EntryView}
 use Rattle.gixobj_editor_open.specs.Descents.{KeepsOpen}

@@ -11,7 +11,8 @@ use Rattle.gixobj_editor_open.specs.Descents.{rebuilt, top_of}
 use Rattle.gixobj_editor_open.specs.Nested.{Opened, dirs_of, entries_side}
 use Rattle.gixobj_editor_open.proofs.Descents.{names_of_take_more}
 use Rattle.gixobj_editor_open.proofs.Exchanges.{at_without_inner}
-use Rattle.gixobj_editor_lookups.proofs.OpeningDescents.{ComesAlong, IsOpenedFrom, Opening, Stopping, comes_along_nil, comes_along_snoc, halts_of_error, is_opened_from_next, names_of_middle, opens_of_end, opens_of_stay}
+use Rattle.gixobj_editor_lookups.proofs.OpeningDescents.{ComesAlong, IsOpenedFrom, Opening, Stopping, comes_along_nil, comes_along_snoc, halts_of_error}
+use Rattle.gixobj_editor_lookups.proofs.OpeningDescents.{is_opened_from_next, names_of_middle, opens_of_end, opens_of_stay}
 use Rattle.gixobj_editor_lookups.proofs.opening.open_and_enter.Goals as goal
 
 pub loop-name-init : goal.loop-name-init

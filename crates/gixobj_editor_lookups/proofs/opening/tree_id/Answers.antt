@@ -2,7 +2,8 @@ use Rattle.std.proofs.Common.{◌∙◌, List, ℕ, sym, ap}
 use Rattle.bstr.specs.Owned.{bstring_bytes}
 use Rattle.std.specs.List.{find}
 use Rattle.gixobj_tree_entries.specs.Entries.{EntryView}
-use Rattle.gixobj_editor_lookups.proofs.OpeningSteps.{is_entry_of_first_tree, is_tree_false_of_none, is_tree_named, option_of_copied_none, option_of_copied_some, if_none_weaken}
+use Rattle.gixobj_editor_lookups.proofs.OpeningSteps.{is_entry_of_first_tree, is_tree_false_of_none, is_tree_named, option_of_copied_none}
+use Rattle.gixobj_editor_lookups.proofs.OpeningSteps.{option_of_copied_some, if_none_weaken}
 use Rattle.gixobj_editor_lookups.proofs.opening.tree_id.Goals as goal
 
 pub returns-in_err-entry-clause-none : goal.returns-in_err-entry-clause-none

@@ -8,7 +8,8 @@ use Rattle.gixobj_editor_open.proofs.Results.{if_err_weaken}
 use Rattle.gixobj_editor_lookups.proofs.NamedTrees.{trees_of_objects_exist}
 use Rattle.gixobj_editor_files.specs.Edits.{counted}
 use Rattle.gixobj_editor_lookups.proofs.OpeningSteps.{ends_before_is_idle}
-use Rattle.gixobj_editor_lookups.proofs.Removing.{IsRejectedSo, halted_removal, halted_removal_counts, name_rejected_so, is_opened_for_of_opens, no_halt, nothing_validated, opens_nothing}
+use Rattle.gixobj_editor_lookups.proofs.Removing.{IsRejectedSo, halted_removal, halted_removal_counts, name_rejected_so, is_opened_for_of_opens, no_halt}
+use Rattle.gixobj_editor_lookups.proofs.Removing.{nothing_validated, opens_nothing}
 use Rattle.gixobj_editor_lookups.proofs.ValidNames.{no_memory_of_name}
 use Rattle.gixobj_editor_lookups.proofs.removal.open_for_removal.Goals as goal
 

@@ -8,7 +8,8 @@ use Rattle.gixobj_editor_open.specs.Copies.{IsCopiedInPart}
 use Rattle.gixobj_editor_open.specs.Nested.{parts}
 use Rattle.gixobj_editor_open.specs.declared.copying.Copying.{Copying}
 use Rattle.gixobj_editor_open.specs.declared.open.Child.{Child}
-use Rattle.gixobj_editor_open.proofs.CopiedFrames.{AllCopied, copying_weight, copying_weight_begun, copying_weights, copying_weights_pop, half_copied_begun, half_copied_ended, view_of_copied}
+use Rattle.gixobj_editor_open.proofs.CopiedFrames.{AllCopied, copying_weight, copying_weight_begun, copying_weights, copying_weights_pop, half_copied_begun}
+use Rattle.gixobj_editor_open.proofs.CopiedFrames.{half_copied_ended, view_of_copied}
 use Rattle.gixobj_editor_open.proofs.PieceEnds.{nil_of_length}
 use Rattle.gixobj_editor_open.proofs.copying.copied.Goals as goal
 

@@ -12,7 +12,10 @@ use Rattle.gixobj_editor_write.specs.declared.frames.Frame.{Frame}
 use Rattle.gixobj_editor_open.proofs.Results.{if_err_weaken}
 use Rattle.gixobj_editor_write.proofs.Emitting.{callable_after_folds, stopped_at_call}
 use Rattle.gixobj_editor_write.proofs.BegunFrames.{storable_of_ended}
-use Rattle.gixobj_editor_write.proofs.WaitingFrames.{EmitsAt, adds_of_ended, called_of_ended, counted_of_ended, emits_at_exists, emits_of_ended, frames_weight, frames_weight_pop, memory_before_begun, memory_of_ended, reverse_push, stopped_in_resume, stopped_in_step, under_way_begun, under_way_ended, under_way_first, under_way_of_equal, under_way_visited, under_way_resumed, waits_of_parent}
+use Rattle.gixobj_editor_write.proofs.WaitingFrames.{EmitsAt, adds_of_ended, called_of_ended, counted_of_ended, emits_at_exists, emits_of_ended, frames_weight}
+use Rattle.gixobj_editor_write.proofs.WaitingFrames.{frames_weight_pop, memory_before_begun, memory_of_ended, reverse_push, stopped_in_resume, stopped_in_step}
+use Rattle.gixobj_editor_write.proofs.WaitingFrames.{under_way_begun, under_way_ended, under_way_first, under_way_of_equal, under_way_visited}
+use Rattle.gixobj_editor_write.proofs.WaitingFrames.{under_way_resumed, waits_of_parent}
 use Rattle.gixobj_editor_open.proofs.PieceEnds.{nil_of_length}
 use Rattle.gixobj_editor_write.proofs.walk.emit_below.Goals as goal
 

@@ -14,7 +14,8 @@ use Rattle.gixobj_editor_open.specs.Nested.{base_side, bases_of, dirs_of, entrie
 use Rattle.gixobj_editor_write.specs.WriteErrors.{IsWriteError, EmitsEntry, child_side}
 use Rattle.gixobj_editor_open.specs.declared.open.Child.{Child}
 use Rattle.gixobj_editor_open.proofs.Results.{if_err_weaken}
-use Rattle.gixobj_editor_write.proofs.Emitting.{emits_below_of_both, emits_entry_open, emits_entry_unopened, emits_entry_written, folds_to_one, side_of_open_child, stopped_after_folds, stopped_at_call, walk_exists_of_open}
+use Rattle.gixobj_editor_write.proofs.Emitting.{emits_below_of_both, emits_entry_open, emits_entry_unopened, emits_entry_written, folds_to_one}
+use Rattle.gixobj_editor_write.proofs.Emitting.{side_of_open_child, stopped_after_folds, stopped_at_call, walk_exists_of_open}
 use Rattle.gixobj_editor_write.proofs.TakenTrees.{adds_blank_tree, adds_leaf_trees_of_child, adds_nil, leaf_tree_has_base_or_is_emitted, some_unique}
 use Rattle.gixobj_editor_write.proofs.walk.visit_entry.Goals as goal
 

@@ -7,7 +7,8 @@ use Rattle.gix_object.specs.Mode.{is_tree_mode}
 use Rattle.gixobj_listings.proofs.Rooted.{if_err_weaken}
 use Rattle.gixobj_listings.specs.Roots.{IsRoot}
 use Rattle.gixobj_examples_audits.specs.Canonical.{IsCanonicalTree, IsCanonicalEntry, IsUnreadBelow}
-use Rattle.gixobj_examples_audits.proofs.StoredTrees.{all_take_snoc, canonical_of_directory, canonical_of_entries, entry_is_null_of_test, error_below_tree, error_of_directory, is_tree_mode_of_test, not_canonical_of_entry, not_canonical_of_null}
+use Rattle.gixobj_examples_audits.proofs.StoredTrees.{all_take_snoc, canonical_of_directory, canonical_of_entries, entry_is_null_of_test, error_below_tree}
+use Rattle.gixobj_examples_audits.proofs.StoredTrees.{error_of_directory, is_tree_mode_of_test, not_canonical_of_entry, not_canonical_of_null}
 use Rattle.gixobj_examples_audits.proofs.canonical.+checking.Goals as goal
 
 pub is_canonical_entry-returns-then-is_null-clause-canonical : goal.is_canonical_entry-returns-then-is_null-clause-canonical

@@ -14,7 +14,8 @@ use Rattle.gixobj_listings.proofs.EntryTests.{is_tree_mode_of_test}
 use Rattle.gixobj_listings.proofs.FileListings.{all_by_recursion_append}
 use Rattle.gixobj_listings.proofs.OrderedChanges.{changes_in_order_snoc, pairs_before_rest, starts_in_pair_snoc}
 use Rattle.gixobj_listings.proofs.PairChanges.{changes_snoc}
-use Rattle.gixobj_listings.proofs.PairReturns.{added_at_pair, added_in_order, changes_inside_directories, changes_of_added, changes_of_removed, changes_of_sides, directories_at_pair, removed_at_pair, removed_in_order}
+use Rattle.gixobj_listings.proofs.PairReturns.{added_at_pair, added_in_order, changes_inside_directories, changes_of_added, changes_of_removed}
+use Rattle.gixobj_listings.proofs.PairReturns.{changes_of_sides, directories_at_pair, removed_at_pair, removed_in_order}
 use Rattle.gixobj_listings.proofs.PairSteps.{left_of_rest, merges_of_nothing, merges_snoc, named_of_starts, right_of_rest, sides_of_first_pair}
 use Rattle.gixobj_listings.proofs.Rooted.{if_err_weaken, if_ok_weaken}
 use Rattle.gixobj_listings.proofs.StoreChanges.{has_changes_at_equal, has_changes_at_files, has_changes_of_roots}

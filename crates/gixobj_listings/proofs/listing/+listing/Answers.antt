@@ -9,8 +9,10 @@ use Rattle.gix_object.specs.Mode.{is_tree_mode}
 use Rattle.gixobj_listings.proofs.EntryTests.{entry_is_null_of_test, is_tree_mode_of_test}
 use Rattle.gixobj_listings.proofs.FileListings.{contains_entry_at, in_order_snoc, starts_snoc}
 use Rattle.gixobj_listings.proofs.Rooted.{if_err_weaken}
-use Rattle.gixobj_listings.proofs.StoreListings.{at_directory_of_bounded, has_files_at_null, has_files_before_next, has_files_inside_directory, has_files_of_entries, has_files_of_root}
-use Rattle.gixobj_listings.proofs.Unread.{are_all_read_of_entries, is_root_unique, list_error_inside_directory, list_error_of_entry, list_error_of_root, read_take_snoc}
+use Rattle.gixobj_listings.proofs.StoreListings.{at_directory_of_bounded, has_files_at_null, has_files_before_next, has_files_inside_directory}
+use Rattle.gixobj_listings.proofs.StoreListings.{has_files_of_entries, has_files_of_root}
+use Rattle.gixobj_listings.proofs.Unread.{are_all_read_of_entries, is_root_unique, list_error_inside_directory, list_error_of_entry, list_error_of_root}
+use Rattle.gixobj_listings.proofs.Unread.{read_take_snoc}
 use Rattle.gixobj_listings.specs.FileLists.{AreInOrder, with_first_name}
 use Rattle.gixobj_listings.specs.Listings.{IsListError}
 use Rattle.gixobj_listings.specs.Roots.{IsRoot}

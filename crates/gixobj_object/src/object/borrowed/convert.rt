@@ -1,7 +1,8 @@
 //! Conversions of borrowed objects from and to trees, blobs, commits and tags, and to owned objects.
 ghost use Rattle.std.specs.Prelude.{◌≡◌, IfErr, IfOk};
 ghost use Rattle.gixobj_hash.specs.declared.kind.Kind.TheVariants as kind;
-ghost use Rattle.gixobj_object.specs.BorrowedObjects.{HasObjectIds, IsOwnedObject, IsIntoOwnedObjectError, borrowed_kind};
+ghost use Rattle.gixobj_object.specs.BorrowedObjects.{HasObjectIds, IsOwnedObject, IsIntoOwnedObjectError};
+ghost use Rattle.gixobj_object.specs.BorrowedObjects.{borrowed_kind};
 ghost use Rattle.gixobj_object.specs.Parts.{IsPartOrBack};
 ghost use Rattle.gixobj_object.specs.declared.object.borrowed.ObjectRef.TheVariants as object;
 

@@ -17,7 +17,8 @@ use std::alloc::Global;
 ///
 /// The error of the encoder of that part. A blob returns only [`Error::Writer`].
 impl WriteTo for ObjectRef<'_> {
-    ghost use Rattle.gixobj_object.specs.BorrowedObjects.{IsReadyToWrite, IsBorrowedObjectError, borrowed_kind, encode_borrowed_object};
+    ghost use Rattle.gixobj_object.specs.BorrowedObjects.{IsReadyToWrite, IsBorrowedObjectError, borrowed_kind};
+    ghost use Rattle.gixobj_object.specs.BorrowedObjects.{encode_borrowed_object};
 
     ghost can_write = { IsReadyToWrite };
 

@@ -1,5 +1,6 @@
 use Rattle.std.proofs.lemmas.Result.{err_from_is_err_and}
-use Rattle.gixobj_parse.proofs.HeaderFields.{folded_value_has_newline, has_header_of_one_line, no_header_without_space, no_header_of_empty_name, no_header_without_newline, header_error_of_lines}
+use Rattle.gixobj_parse.proofs.HeaderFields.{folded_value_has_newline, has_header_of_one_line, no_header_without_space, no_header_of_empty_name}
+use Rattle.gixobj_parse.proofs.HeaderFields.{no_header_without_newline, header_error_of_lines}
 use Rattle.gixobj_parse.proofs.parse.any_header_field.Goals as goal
 
 pub returns-in_default-clause-error : goal.returns-in_default-clause-error

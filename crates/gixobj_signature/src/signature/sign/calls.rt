@@ -2,7 +2,8 @@
 ghost use Rattle.std.specs.Prelude.{◌≡◌, ◌∷◌, [], IfOk, map};
 ghost use Rattle.bstr.specs.Owned.{bstring_bytes};
 ghost use Rattle.gixobj_signature_reports.specs.Calls.{call_view, word_view};
-ghost use Rattle.gixobj_signature.specs.Signing.{gpg_call, leaving_call, literal_call, sign_options_view, path_call, ssh_call};
+ghost use Rattle.gixobj_signature.specs.Signing.{gpg_call, leaving_call, literal_call, sign_options_view, path_call};
+ghost use Rattle.gixobj_signature.specs.Signing.{ssh_call};
 
 use super::{Options, is_literal_ssh_key};
 use bstr::{BString, ByteSlice};

@@ -7,9 +7,11 @@ ghost use Rattle.gixobj_signature_reports.specs.Outcomes.{outcome_view};
 ghost use Rattle.gixobj_parse.specs.declared.signature.Format.TheVariants as format;
 ghost use Rattle.gixobj_signature.specs.SignedBytes.{signed_bytes};
 ghost use Rattle.gixobj_signature.specs.Verifiers.{by_open_pgp, by_x509, program_of};
-ghost use Rattle.gixobj_signature.specs.VerifyingCalls.{open_pgp_call, open_pgp_arguments, full_call, x509_call, x509_arguments};
+ghost use Rattle.gixobj_signature.specs.VerifyingCalls.{open_pgp_call, open_pgp_arguments, full_call, x509_call};
+ghost use Rattle.gixobj_signature.specs.VerifyingCalls.{x509_arguments};
 ghost use Rattle.gixobj_signature.specs.Plans.{AllocatesForCalls};
-ghost use Rattle.gixobj_signature.specs.Verifying.{IsOutcomeOf, gpg_verified, gpg_verify_plan, reported, verify_plan, verify_view};
+ghost use Rattle.gixobj_signature.specs.Verifying.{IsOutcomeOf, gpg_verified, gpg_verify_plan, reported, verify_plan};
+ghost use Rattle.gixobj_signature.specs.Verifying.{verify_view};
 
 use super::{Error, Program, run_call};
 use crate::signature::{Call, Output, Runner, SignedData, Word};

@@ -9,7 +9,9 @@ ghost use Rattle.gixobj_signature.specs.SignedBytes.{signed_bytes};
 ghost use Rattle.gixobj_signature.specs.Verifiers.{by_ssh, ssh_of, ssh_program_of};
 ghost use Rattle.gixobj_signature.specs.VerifyingCalls.{novalidate_call, principal_call, principals_call};
 ghost use Rattle.gixobj_signature.specs.Plans.{AllocatesForCalls};
-ghost use Rattle.gixobj_signature.specs.Verifying.{WasCalled, IsOutcomeOf, accepts, human, lossy, principals_in, reported, rest_plan, ssh_verified, ssh_verify_plan, tries, verify_plan, verify_view};
+ghost use Rattle.gixobj_signature.specs.Verifying.{WasCalled, IsOutcomeOf, accepts, human, lossy, principals_in};
+ghost use Rattle.gixobj_signature.specs.Verifying.{reported, rest_plan, ssh_verified, ssh_verify_plan, tries};
+ghost use Rattle.gixobj_signature.specs.Verifying.{verify_plan, verify_view};
 ghost use Rattle.gixobj_hash.specs.ByteStrings.{is_filled};
 
 mod calls;

@@ -3,7 +3,8 @@ ghost use Rattle.std.specs.Prelude.{◌≡◌, ◌≢◌, ◌≤◌, [], MatchOp
 ghost use Rattle.std.specs.Option.{option_map};
 ghost use Rattle.bstr.specs.BStr.{bstr_bytes};
 ghost use Rattle.gixobj_hash.specs.Optional.{bytes_if_some};
-ghost use Rattle.gixobj_text.specs.LineBreaks.{IsFromBreak, after_break as after_break_of, after_two_breaks as after_two_of};
+ghost use Rattle.gixobj_text.specs.LineBreaks.{IsFromBreak, after_break as after_break_of};
+ghost use Rattle.gixobj_text.specs.LineBreaks.{after_two_breaks as after_two_of};
 ghost use Rattle.gixobj_text.specs.Titles.{SplitsTitle};
 
 use bstr::{BStr, ByteSlice};

@@ -5,7 +5,8 @@ ghost use Rattle.std.specs.Cow.{cow_slice_items};
 ghost use Rattle.bstr.specs.Trim.{trim_end_by};
 ghost use Rattle.gixobj_text.specs.TrailerSteps.{is_owned};
 ghost use Rattle.gixobj_text.specs.SummaryPieces.{is_multiline};
-ghost use Rattle.gixobj_text.specs.Titles.{pieces_of, summary_of, summary_of_pieces, without_trailing as without_trailing_of};
+ghost use Rattle.gixobj_text.specs.Titles.{pieces_of, summary_of, summary_of_pieces};
+ghost use Rattle.gixobj_text.specs.Titles.{without_trailing as without_trailing_of};
 
 use bstr::ByteSlice;
 use gixobj_hash::memory::OutOfMemory;

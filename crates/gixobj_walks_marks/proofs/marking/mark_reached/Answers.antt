@@ -1,7 +1,8 @@
 use Rattle.std.proofs.Common.{◌≡◌, ◌<◌, List, ℕ, [], ◌∷◌, length, arith, subst}
 use Rattle.gixobj_walks_marks.specs.Spreading.{Spreads}
 use Rattle.gixobj_walks_marks.proofs.Marked.{empty_list, on_err, read_unmarked}
-use Rattle.gixobj_walks_marks.proofs.Spread.{IsSpreading, marked_already, spreading_begins, spreading_ends, spreading_goes_on, spreading_is_closed, top_is_inside}
+use Rattle.gixobj_walks_marks.proofs.Spread.{IsSpreading, marked_already, spreading_begins, spreading_ends, spreading_goes_on, spreading_is_closed}
+use Rattle.gixobj_walks_marks.proofs.Spread.{top_is_inside}
 use Rattle.gixobj_walks_marks.proofs.marking.mark_reached.Goals as goal
 
 pub returns-then-marked-from-clause-reached : goal.returns-then-marked-from-clause-reached

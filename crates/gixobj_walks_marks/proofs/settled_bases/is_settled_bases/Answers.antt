@@ -5,7 +5,8 @@ use Rattle.gixobj_walks_graph.specs.Numbered.{graph_at}
 use Rattle.gixobj_walks_marks.specs.Chosen.{IsCandidateAt, ReachesWanted}
 use Rattle.gixobj_walks_marks.proofs.Marked.{if_ok_then}
 use Rattle.gixobj_walks_marks.proofs.SettledAt.{listed_are_inside}
-use Rattle.gixobj_walks_marks.proofs.SharedMarks.{bases_settled_answer, bases_unsettled_answer, many_candidates, settled_bases_are_read, settled_bases_are_shared}
+use Rattle.gixobj_walks_marks.proofs.SharedMarks.{bases_settled_answer, bases_unsettled_answer, many_candidates, settled_bases_are_read}
+use Rattle.gixobj_walks_marks.proofs.SharedMarks.{settled_bases_are_shared}
 use Rattle.gixobj_walks_marks.proofs.Tests.{fails_if_false, holds_if_true}
 use Rattle.gixobj_walks_marks.proofs.settled_bases.is_settled_bases.Goals as goal
 

@@ -4,7 +4,8 @@ use Rattle.std.proofs.lemmas.List.{get_or-set_same, reverse-append}
 use Rattle.gixobj_walks_order.specs.Counts.{freed_parents, is_marked}
 use Rattle.gixobj_walks_order.proofs.Named.{below_set, first_count, named_at, freed_no, freed_yes, released_at, stamped_at}
 use Rattle.gixobj_walks_order.proofs.children.release_parents.Goals as goal
-use Rattle.gixobj_walks_order.proofs.children.release_parents.Goals.{else-counts-parent-eq0-via-then-counts-parent-eq0+else-selected-parent, else-counts-parent-eq0-via-else-counts-parent-eq0}
+use Rattle.gixobj_walks_order.proofs.children.release_parents.Goals.{else-counts-parent-eq0-via-then-counts-parent-eq0+else-selected-parent}
+use Rattle.gixobj_walks_order.proofs.children.release_parents.Goals.{else-counts-parent-eq0-via-else-counts-parent-eq0}
 
 pub loop-left-preserved-then-selected-parent : goal.loop-left-preserved-then-selected-parent
 loop-left-preserved-then-selected-parent c =

@@ -6,7 +6,8 @@ use Rattle.gixobj_walks_graph.specs.Numbered.{IsMarked, graph_at}
 use Rattle.gixobj_walks_order.specs.Progress.{IsLast, ListsNext, all_of}
 use Rattle.gixobj_walks_order.specs.Queues.{waiting_of}
 use Rattle.gixobj_walks_order.specs.declared.queue.Key.{Key}
-use Rattle.gixobj_walks_order.proofs.Ends.{left_over_is_cycle, listed_is_selected, listed_within, lists_nothing, nothing_waits, run_first, run_more, selected_is_listed}
+use Rattle.gixobj_walks_order.proofs.Ends.{left_over_is_cycle, listed_is_selected, listed_within, lists_nothing, nothing_waits, run_first, run_more}
+use Rattle.gixobj_walks_order.proofs.Ends.{selected_is_listed}
 use Rattle.gixobj_walks_order.proofs.listing.list_in_order.Goals as goal
 
 pub returns-then-not-is_any_marked-clause-listing : goal.returns-then-not-is_any_marked-clause-listing

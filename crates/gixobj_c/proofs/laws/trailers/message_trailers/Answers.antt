@@ -1,5 +1,6 @@
 -- Each call adds the trailer that it found; at the end there are all.
-use Rattle.gixobj_c.proofs.TrailerRuns.{all_trailers, has_found_next, has_found_none, has_written, no_memory_for_trailer, status_of_trailer_run, trailer_calls_advance}
+use Rattle.gixobj_c.proofs.TrailerRuns.{all_trailers, has_found_next, has_found_none, has_written, no_memory_for_trailer, status_of_trailer_run}
+use Rattle.gixobj_c.proofs.TrailerRuns.{trailer_calls_advance}
 use Rattle.gixobj_c.proofs.laws.trailers.message_trailers.Goals as goal
 
 pub calls-init : goal.calls-init

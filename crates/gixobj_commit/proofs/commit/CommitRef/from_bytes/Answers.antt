@@ -3,7 +3,8 @@ use Rattle.std.proofs.lemmas.Result.{err_from_is_err_and}
 use Rattle.gixobj_commit.specs.CommitViews.{commit_lines}
 use Rattle.gixobj_grammar.proofs.OneLine.{line_len_lt}
 use Rattle.gixobj_parse.proofs.HeaderFields.{is_id_hex_of_decoded}
-use Rattle.gixobj_grammar.proofs.EntireCommits.{parents_are_id_hex, gathers_snoc, reaches_second_parent_or_header, decode_error_of_line_error, decodes_commit_of_gathered}
+use Rattle.gixobj_grammar.proofs.EntireCommits.{parents_are_id_hex, gathers_snoc, reaches_second_parent_or_header, decode_error_of_line_error}
+use Rattle.gixobj_grammar.proofs.EntireCommits.{decodes_commit_of_gathered}
 use Rattle.gixobj_grammar.specs.Lines.{line_view}
 use Rattle.gixobj_grammar.specs.declared.lines.State.TheVariants as state
 use Rattle.gixobj_commit.proofs.commit.CommitRef.from_bytes.Goals as goal

@@ -18,7 +18,8 @@ use Rattle.gixobj_editor_lookups.specs.FailedOpenings.{IsLookupError}
 use Rattle.gixobj_editor.specs.FailedEdits.{IsAfterFailedEdit}
 use Rattle.gixobj_editor_lookups.specs.declared.error.Error.{Error}
 use Rattle.gixobj_editor_lookups.proofs.ValidNames.{no_lookup_of_name, no_memory_of_name}
-use Rattle.gixobj_editor.proofs.Edited.{OpenedOn, OpenedSo, counted_at, edited_bases_idle, halted_so, is_upserted_unchanged, is_opened_of_editor, opened_so, fails, unchanged_at, upserted_at, state_of}
+use Rattle.gixobj_editor.proofs.Edited.{OpenedOn, OpenedSo, counted_at, edited_bases_idle, halted_so, is_upserted_unchanged, is_opened_of_editor, opened_so}
+use Rattle.gixobj_editor.proofs.Edited.{fails, unchanged_at, upserted_at, state_of}
 use Rattle.gixobj_editor_lookups.specs.declared.opening.NotLookedUp.TheVariants as not_looked_up
 use Rattle.gixobj_editor_lookups.proofs.NamedTrees.{trees_of_objects_exist}
 use Rattle.gixobj_editor_lookups.proofs.OpeningsBelow.{upsert_error_of_name}

@@ -9,7 +9,8 @@ use Rattle.gixobj_editor_files.specs.Edits.{with_directory}
 use Rattle.gixobj_editor_files.proofs.HasTrees.{with_directory_of_tree}
 use Rattle.gixobj_editor_open.specs.Paths.{names_of}
 use Rattle.gixobj_editor_open.specs.Nested.{Part, child_list, dirs_of, in_part, opened, parts, with_part}
-use Rattle.gixobj_editor_open.proofs.Levels.{child_has_tree, in_part_of_child, is_level_with_directory, is_level_set, all_names_differ, in_part_none, becomes_of_with_part, becomes_of_set}
+use Rattle.gixobj_editor_open.proofs.Levels.{child_has_tree, in_part_of_child, is_level_with_directory, is_level_set, all_names_differ, in_part_none}
+use Rattle.gixobj_editor_open.proofs.Levels.{becomes_of_with_part, becomes_of_set}
 use Rattle.gixobj_editor_open.proofs.Steps.{names_of_nil}
 use Rattle.gixobj_editor_files.proofs.WrittenTrees.{on_err_of}
 use Rattle.gixobj_editor_open.proofs.Pieces.{IsFound, is_changed, is_child, is_pieced_level_with_open, parts_with_open_same}

@@ -11,7 +11,8 @@ use Rattle.gixobj_editor_files.specs.Edits.{upserted_dirs, with_directory}
 use Rattle.gixobj_editor_open.specs.Nested.{Part, child_list, dirs_of, in_part, opened, other_parts, parts, with_part}
 use Rattle.std.proofs.lemmas.Result.{MatchResult-weaker}
 use Rattle.gixobj_editor_files.proofs.HasTrees.{with_directory_of_tree}
-use Rattle.gixobj_editor_open.proofs.Levels.{child_has_tree, in_part_of_child, is_level_with_entry, is_level_set, is_level_with_directory, all_names_differ, in_part_none, becomes_of_removal, becomes_of_with_part, becomes_of_set}
+use Rattle.gixobj_editor_open.proofs.Levels.{child_has_tree, in_part_of_child, is_level_with_entry, is_level_set, is_level_with_directory, all_names_differ}
+use Rattle.gixobj_editor_open.proofs.Levels.{in_part_none, becomes_of_removal, becomes_of_with_part, becomes_of_set}
 use Rattle.gixobj_editor_open.proofs.Pieces.{IsFound, is_changed, is_child, is_pieced_level_with_open, parts_with_open_same}
 use Rattle.gixobj_editor_open.proofs.Steps.{more_names_remain, names_of_last, inserted_deeper, inserted_last}
 use Rattle.gixobj_editor_files.specs.Bases.{base_edited}

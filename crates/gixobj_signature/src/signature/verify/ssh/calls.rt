@@ -5,7 +5,9 @@ ghost use Rattle.bstr.specs.Owned.{bstring_bytes};
 ghost use Rattle.gixobj_signature_reports.specs.Calls.{call_view, pair_view, word_view};
 ghost use Rattle.gixobj_signature.specs.SignedBytes.{signed_bytes};
 ghost use Rattle.gixobj_signature.specs.Verifiers.{ssh_of, ssh_program_of};
-ghost use Rattle.gixobj_signature.specs.VerifyingCalls.{in_english, novalidate_call, novalidate_arguments, principal_call, principal_arguments, principals_call, revocation_arguments, full_call};
+ghost use Rattle.gixobj_signature.specs.VerifyingCalls.{in_english, novalidate_call, novalidate_arguments};
+ghost use Rattle.gixobj_signature.specs.VerifyingCalls.{principal_call, principal_arguments, principals_call};
+ghost use Rattle.gixobj_signature.specs.VerifyingCalls.{revocation_arguments, full_call};
 
 use crate::signature::verify::SshProgram;
 use crate::signature::{Call, SignedData, Word};

@@ -4,7 +4,8 @@ use Rattle.std.specs.declared.ops.ControlFlow.TheVariants.{Break, Continue}
 use Rattle.bstr.specs.Owned.{bstring_bytes}
 use Rattle.gixobj_tree_entries.specs.Entries.{EntryView}
 use Rattle.gixobj_store.proofs.Paths.{follows_nil, follows_snoc}
-use Rattle.gixobj_store.proofs.Steps.{path_error_of_copy, is_at_path_none, is_at_path_found, is_step_of_reader, named_stored, names_drop_one, is_at_path_of_reader, kind_is_tree_of_step}
+use Rattle.gixobj_store.proofs.Steps.{path_error_of_copy, is_at_path_none, is_at_path_found, is_step_of_reader, named_stored, names_drop_one}
+use Rattle.gixobj_store.proofs.Steps.{is_at_path_of_reader, kind_is_tree_of_step}
 use Rattle.gixobj_store.specs.Lookups.{IsAtPath, remaining_tree}
 use Rattle.gixobj_store.specs.Stores.{stored}
 use Rattle.gixobj_store.proofs.tree.TreeRefIter.lookup_entry.Goals as goal

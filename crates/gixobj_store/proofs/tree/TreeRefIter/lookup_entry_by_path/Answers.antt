@@ -7,7 +7,8 @@ use Rattle.gixobj_hash.specs.declared.hash.object_id.ObjectId.{ObjectId}
 use Rattle.gixobj_tree_entries.specs.Entries.{EntryView}
 use Rattle.gixobj_store.proofs.PathBytes.{are_names_of_path, path_names}
 use Rattle.gixobj_store.proofs.Paths.{follows_nil, follows_snoc, path_error_of_lookup}
-use Rattle.gixobj_store.proofs.Steps.{path_error_of_copy, is_at_path_none, is_at_path_found, path_names_len_lt, is_step_of_reader, named_stored, is_at_path_of_reader, is_step_of_path_names, kind_is_tree_of_step}
+use Rattle.gixobj_store.proofs.Steps.{path_error_of_copy, is_at_path_none, is_at_path_found, path_names_len_lt, is_step_of_reader, named_stored}
+use Rattle.gixobj_store.proofs.Steps.{is_at_path_of_reader, is_step_of_path_names, kind_is_tree_of_step}
 use Rattle.gixobj_store.specs.Lookups.{IsAtPath, remaining_tree}
 use Rattle.gixobj_store.specs.Stores.{IsFindError, stored}
 use Rattle.gixobj_store.proofs.tree.TreeRefIter.lookup_entry_by_path.Goals as goal

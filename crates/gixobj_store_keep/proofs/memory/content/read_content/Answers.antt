@@ -1,7 +1,8 @@
 -- A piece extends the content, and an error of the missing bytes is an error of all.
 use Rattle.std.proofs.Common.{◌∙◌, refl}
 use Rattle.std.proofs.lemmas.Result.{err_from_is_err_and}
-use Rattle.gixobj_store_keep.proofs.ContentReads.{content_error_after_piece, reads_exactly_of_none_missing, reads_so_far_append, reads_so_far_nil, reads_up_to_with_piece}
+use Rattle.gixobj_store_keep.proofs.ContentReads.{content_error_after_piece, reads_exactly_of_none_missing, reads_so_far_append, reads_so_far_nil}
+use Rattle.gixobj_store_keep.proofs.ContentReads.{reads_up_to_with_piece}
 use Rattle.gixobj_store_keep.proofs.memory.content.read_content.Goals as goal
 
 pub loop-missing-init : goal.loop-missing-init

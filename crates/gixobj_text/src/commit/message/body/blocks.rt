@@ -1,6 +1,7 @@
 //! The messages of a body, each with the trailers that follow it.
 ghost use Rattle.std.specs.Prelude.{◌≡◌, ◌≤◌, ◌-◌, ◌||◌, length, take};
-ghost use Rattle.gixobj_text.specs.BodyLines.{is_continuation_line as is_continuation_line_of, is_trailer_line as is_trailer_line_of};
+ghost use Rattle.gixobj_text.specs.BodyLines.{is_continuation_line as is_continuation_line_of};
+ghost use Rattle.gixobj_text.specs.BodyLines.{is_trailer_line as is_trailer_line_of};
 ghost use Rattle.gixobj_text.specs.LineSteps.{IsAtTrailer, IsAfterTrailers};
 
 use crate::commit::message::body::lines::{line_content, split_line};

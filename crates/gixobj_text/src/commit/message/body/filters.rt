@@ -1,7 +1,9 @@
 //! Filters of trailers by their tokens.
 ghost use Rattle.std.specs.Prelude.{◌≡◌};
 ghost use Rattle.bstr.specs.BStr.{bstr_bytes};
-ghost use Rattle.gixobj_text.specs.declared.commit.message.body.filters.Filter.TheVariants.{AssistedBy, Attributions, Authors, CoAuthoredBy, SignedOffBy};
+ghost use Rattle.gixobj_text.specs.declared.commit.message.body.filters.Filter.TheVariants.{AssistedBy, Attributions};
+ghost use Rattle.gixobj_text.specs.declared.commit.message.body.filters.Filter.TheVariants.{Authors, CoAuthoredBy};
+ghost use Rattle.gixobj_text.specs.declared.commit.message.body.filters.Filter.TheVariants.{SignedOffBy};
 ghost use Rattle.gixobj_text.specs.Filters.{NextFiltered, all_of, remaining_filtered_count, filter_of, passes_filter};
 
 use crate::commit::message::body::trailers::{TrailerRef, Trailers};

@@ -1,5 +1,6 @@
 //! The scan over the lines of a body for its last run and its trailer block.
-ghost use Rattle.std.specs.Prelude.{◌≡◌, ◌<◌, ◌≤◌, ◌+◌, ◌^◌, ◌≢◌, ℕ, List, [], ◌∷◌, ◌++◌, length, true, false, IsTrue, IsFalse};
+ghost use Rattle.std.specs.Prelude.{◌≡◌, ◌<◌, ◌≤◌, ◌+◌, ◌^◌, ◌≢◌, ℕ, List, [], ◌∷◌, ◌++◌, length, true, false, IsTrue};
+ghost use Rattle.std.specs.Prelude.{IsFalse};
 ghost use Rattle.bstr.specs.Text.{lines_of};
 ghost use Rattle.gixobj_text.specs.BodyLines.{is_blank, trimmed_line};
 ghost use Rattle.gixobj_text.specs.Scanned.{AddsLine, Scanned};

@@ -1,7 +1,9 @@
 //! The split of a trailer line into its token and its value.
 ghost use Rattle.std.specs.Prelude.{◌≡◌, ◌≤◌, ◌-◌, is_some, length, take};
 ghost use Rattle.std.specs.Option.{option_map};
-ghost use Rattle.gixobj_text.specs.BodyLines.{after_gap as after_gap_of, after_token as after_token_of, is_gap_byte as is_gap_byte_of, is_token_byte as is_token_byte_of, trailer_parts, with_value};
+ghost use Rattle.gixobj_text.specs.BodyLines.{after_gap as after_gap_of, after_token as after_token_of};
+ghost use Rattle.gixobj_text.specs.BodyLines.{is_gap_byte as is_gap_byte_of, is_token_byte as is_token_byte_of};
+ghost use Rattle.gixobj_text.specs.BodyLines.{trailer_parts, with_value};
 ghost use Rattle.gixobj_text.specs.Scanning.{read_parts};
 
 /// Returns whether a byte is an ASCII letter, an ASCII digit or `-`.

@@ -12,7 +12,8 @@ use Rattle.gixobj_walks_order.specs.Listed.{AreMarkedRead, AreReached, IsListErr
 use Rattle.gixobj_walks.specs.Machine.{WalkView, given_graph, names_of, wanted_of}
 use Rattle.gixobj_walks.specs.Named.{Names, graph_of}
 use Rattle.gixobj_walks.specs.WalkErrors.{IsWalkListError}
-use Rattle.gixobj_walks.proofs.WalkLists.{below_of_marks, cycle_of_list, error_of_list, marked_are_read, marked_are_reached, marks_of_selected, walk_in_each, walk_of_list}
+use Rattle.gixobj_walks.proofs.WalkLists.{below_of_marks, cycle_of_list, error_of_list, marked_are_read, marked_are_reached, marks_of_selected, walk_in_each}
+use Rattle.gixobj_walks.proofs.WalkLists.{walk_of_list}
 use Rattle.gixobj_walks.proofs.walk.Walk.list.Goals as goal
 
 pub list_in_order-requires-clause-read : goal.list_in_order-requires-clause-read

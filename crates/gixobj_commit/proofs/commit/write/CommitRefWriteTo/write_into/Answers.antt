@@ -11,7 +11,8 @@ use Rattle.gixobj_hash.specs.Hash.{IsIdHex}
 use Rattle.gixobj_hash.specs.FieldFormat.{encode_field}
 use Rattle.gixobj_streams.specs.Writing.{RejectedValue}
 use Rattle.gixobj_commit.proofs.CommitWrites.{borrowed_commit_error_after, borrowed_commit_in_parts, ids_written, borrowed_commit_error_of_part, all_map}
-use Rattle.gixobj_commit.proofs.PartSteps.{appends_all_four, appends_first_of_four, appends_fourth_of_four, appends_second_of_four, appends_third_of_four, appends_all_three}
+use Rattle.gixobj_commit.proofs.PartSteps.{appends_all_four, appends_first_of_four, appends_fourth_of_four, appends_second_of_four, appends_third_of_four}
+use Rattle.gixobj_commit.proofs.PartSteps.{appends_all_three}
 use Rattle.gixobj_commit.specs.CommitViews.{commit_lines}
 use Rattle.gixobj_hash.specs.Optional.{bytes_if_some}
 use Rattle.gixobj_commit.specs.CommitWriting.{IsCommitLinesError, hex_parent, in_lower_case, IsEncodingLineError}

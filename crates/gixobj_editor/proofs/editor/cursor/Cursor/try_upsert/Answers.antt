@@ -32,7 +32,8 @@ use Rattle.gixobj_editor_lookups.proofs.OpeningsBelow.{ends_of_names, from_root_
 use Rattle.gixobj_editor.specs.Cursors.{IsCursorEditError}
 use Rattle.gixobj_editor.specs.Upserts.{IsNameError, IsUpsertError, IsUpserted}
 use Rattle.gixobj_editor.proofs.CursorPrefixes.{Stays, names_of_open, stays_failed, stays_upserted}
-use Rattle.gixobj_editor.proofs.Edited.{OpenedOn, OpenedSo, counted_at, edited_bases_idle, is_opened_of_editor, is_upserted_unchanged, map_dirs, map_dirs_eq, opened_so, same_state, state_of, stay_at, upserted_at}
+use Rattle.gixobj_editor.proofs.Edited.{OpenedOn, OpenedSo, counted_at, edited_bases_idle, is_opened_of_editor, is_upserted_unchanged, map_dirs, map_dirs_eq}
+use Rattle.gixobj_editor.proofs.Edited.{opened_so, same_state, state_of, stay_at, upserted_at}
 use Rattle.gixobj_editor.proofs.OpenedOn.{in_part_on, inserted_on, opened_on}
 use Rattle.gixobj_editor.proofs.editor.cursor.Cursor.try_upsert.Goals as goal
 

@@ -4,8 +4,11 @@ use Rattle.std.proofs.Common.{arith, codes}
 use Rattle.std.proofs.lemmas.Result.{IfErr-weaker, IfOk-weaker, err_from_is_err_and}
 use Rattle.gixobj_streams.proofs.Appends.{appends_all_append}
 use Rattle.gixobj_streams.proofs.Errors.{lacks_room_after, lacks_room_of_result, writing_error_append}
-use Rattle.gixobj_commit.proofs.CommitWrites.{author_or_later, committer_or_later, encoding_or_later, owned_commit_error_after_ids, owned_commit_in_parts, owned_commit_error_of_author, owned_commit_error_of_committer, owned_commit_error_of_encoding, owned_commit_rejects_nothing}
-use Rattle.gixobj_commit.proofs.PartSteps.{appends_all_four, appends_first_of_four, appends_fourth_of_four, appends_second_of_four, appends_third_of_four, appends_all_three}
+use Rattle.gixobj_commit.proofs.CommitWrites.{author_or_later, committer_or_later, encoding_or_later, owned_commit_error_after_ids, owned_commit_in_parts}
+use Rattle.gixobj_commit.proofs.CommitWrites.{owned_commit_error_of_author, owned_commit_error_of_committer, owned_commit_error_of_encoding}
+use Rattle.gixobj_commit.proofs.CommitWrites.{owned_commit_rejects_nothing}
+use Rattle.gixobj_commit.proofs.PartSteps.{appends_all_four, appends_first_of_four, appends_fourth_of_four, appends_second_of_four, appends_third_of_four}
+use Rattle.gixobj_commit.proofs.PartSteps.{appends_all_three}
 use Rattle.gixobj_hash.specs.Optional.{bytes_if_some}
 use Rattle.gixobj_commit.specs.CommitWriting.{IsOwnedCommitError, IsEncodingLineError}
 use Rattle.gixobj_actor.specs.ActorWriting.{IsActorFieldError}
