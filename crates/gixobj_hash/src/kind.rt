@@ -55,16 +55,12 @@ impl Kind {
         ensures { MatchOption result (IsUnknownKindName token.now)
             (λ kind. token.now ≡ kind_name kind) }
     {
-        if token == b"tree".as_slice() {
-            Some(Kind::Tree)
-        } else if token == b"blob".as_slice() {
-            Some(Kind::Blob)
-        } else if token == b"commit".as_slice() {
-            Some(Kind::Commit)
-        } else if token == b"tag".as_slice() {
-            Some(Kind::Tag)
-        } else {
-            None
+        match token {
+            b"tree" => Some(Kind::Tree),
+            b"blob" => Some(Kind::Blob),
+            b"commit" => Some(Kind::Commit),
+            b"tag" => Some(Kind::Tag),
+            _ => None,
         }
     }
 
