@@ -11,7 +11,7 @@ import re
 from repository import TOP
 
 HEADING = re.compile(r"#{2,4} +(.*)")
-LINK = re.compile(r"\]\(\.\./(crates/gixobj_tests_guide/src/tasks/\w+\.rt)\)")
+LINK = re.compile(r"\]\(\.\./(crates/gixobj_tests_guide\w*/src/tasks/\w+\.rt)\)")
 
 # a type: the key of the item, which is the path of its file and its name; and whether a Result or an Option wraps it
 Type = collections.namedtuple("Type", "key wrapped")

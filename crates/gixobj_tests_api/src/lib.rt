@@ -4,6 +4,7 @@
 #[cfg(test)]
 mod editor;
 pub mod imports;
+pub mod objects;
 #[cfg(test)]
 mod public_paths;
 pub mod samples;

@@ -1,12 +1,6 @@
-//! Tests of the examples of README and of the tasks of the guide.
+//! Tests of README's example and of the guide's tasks about objects.
 #![tactic(auto)]
 
-#[cfg(test)]
-mod checking_tasks;
-#[cfg(test)]
-mod more_tasks;
-#[cfg(test)]
-mod printing_tasks;
 #[cfg(test)]
 mod readme;
 #[cfg(test)]

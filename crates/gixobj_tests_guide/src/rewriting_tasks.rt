@@ -1,7 +1,8 @@
 //! Calls the examples of docs/GUIDE.md that rewrite messages, commits and tags.
 
-use crate::tasks::{TAG_BYTES, renaming, unsigning};
+use crate::tasks::{renaming, unsigning};
 use gix_object::{Commit, Tag, WriteTo};
+use gixobj_tests_api::objects::TAG_BYTES;
 use std::alloc::Global;
 
 /// Whether a message with `Acked-by` renamed to `Reviewed-by` is this one.

@@ -1,77 +1,32 @@
 //! Calls examples of docs/GUIDE.md once. That document prints the files without their head comments.
 
-pub mod batches;
-pub mod checks;
 mod clauses;
-pub mod commit_edits;
 mod commits;
-pub mod depths;
-pub mod differences;
-mod editors;
-mod edits;
 mod entries;
 mod headers;
-pub mod histories;
-pub mod ids;
-mod imports;
+mod ids;
 mod listing;
 mod loose;
-pub mod memories;
-pub mod names;
-pub mod one_error;
-mod paths;
-pub mod prints;
-pub mod programs;
-pub mod records;
 pub mod renaming;
 mod rewording;
 mod runners;
-mod runs;
 mod signing;
-mod stores;
 mod streams;
 mod tags;
 mod tokens;
 mod trailers;
 pub mod unsigning;
-pub mod values;
+mod values;
 mod verifying;
-mod walks;
-pub mod writes;
 mod writing;
 
 use bstr::BStr;
 use gix_object::hash::{Kind as HashKind, ObjectId};
 use gix_object::signature::Output;
-use gix_object::tree::editor::{Editor, Error};
-use gix_object::{Commit, CommitRef, Data, Exists, Kind, Memory, OutOfMemory, Tree, decode};
-use gixobj_tests_api::samples::{Row, edits_of, id, path_of, step_by, string_of};
+use gix_object::{Commit, CommitRef, Kind, decode};
+use gixobj_tests_api::objects::{BLOB, FIRST, SECOND_BYTES, TAG_BYTES, TREE, TREE_BYTES};
+use gixobj_tests_api::samples::{id, string_of};
 use std::alloc::Global;
-
-pub const BLOB: &[u8] = b"ce013625030ba8dba906f756967f9e9ca394464a";
-
-/// Id that `git mktree` prints for the file `a.txt` with this blob and for `run.sh`, empty and executable.
-pub const TREE: &[u8] = b"6a1189fc1d3cfd1b49810fec0ce01390b8239044";
-
-pub const TREE_BYTES: &[u8] = b"100644 a.txt\0\
-    \xce\x01\x36\x25\x03\x0b\xa8\xdb\xa9\x06\xf7\x56\x96\x7f\x9e\x9c\xa3\x94\x46\x4a\
-    100755 run.sh\0\
-    \xe6\x9d\xe2\x9b\xb2\xd1\xd6\x43\x4b\x8b\x29\xae\x77\x5a\xd8\xc2\xe4\x8c\x53\x91";
-
-/// Id that `git hash-object -t commit` prints for the first commit.
-pub const FIRST: &[u8] = b"cfe258e596ae478f05508755d7b1559681b5833a";
-
-pub const FIRST_BYTES: &[u8] = b"tree 4b825dc642cb6eb9a060e54bf8d69288fbee4904\n\
-    author A <a@b> 0 +0000\n\
-    committer A <a@b> 0 +0000\n\
-    \nfirst\n";
-
-/// The second commit, a child of the first.
-pub const SECOND_BYTES: &[u8] = b"tree 6a1189fc1d3cfd1b49810fec0ce01390b8239044\n\
-    parent cfe258e596ae478f05508755d7b1559681b5833a\n\
-    author A U Thor <a@b> 7 +0100\n\
-    committer A <a@b> 8 +0000\n\
-    \nsecond\n\nSigned-off-by: A\n";
 
 #[test]
 fn writes_id_in_lower_case(rt: HostRuntime) {
@@ -80,6 +35,24 @@ fn writes_id_in_lower_case(rt: HostRuntime) {
     assert!(rt;
         ids::in_lower_case(upper, &mut buffer) == Some("ce013625030ba8dba906f756967f9e9ca394464a")
     );
+}
+
+/// Whether content is verified against the blob's id.
+fn verifies_blob() -> bool {
+    ids::verify_content(Kind::Blob, b"hello\n", id(BLOB)).is_ok()
+        && ids::verify_content(Kind::Blob, b"hello", id(BLOB)).is_err()
+}
+
+#[test]
+fn verifies_content(rt: HostRuntime) {
+    assert!(rt; verifies_blob());
+}
+
+/// `git hash-object -t tag` prints the id of the tag.
+#[test]
+fn encodes_values_from_nothing(rt: HostRuntime) {
+    let tag = id(b"17a06e40c0cab9c675740072ef2b116b2a6a51d4");
+    assert!(rt; values::tag_id(rt.alloc(), id(BLOB), id(FIRST)).ok() == Some(tag));
 }
 
 /// Whether a loose object is the blob, without a link.
@@ -172,9 +145,6 @@ fn decodes_tree_and_first_parent(rt: HostRuntime) {
     assert!(rt; is_id(clauses::tree_of(alloc, SECOND_BYTES, HashKind::Sha1), TREE));
 }
 
-pub const TAG_BYTES: &[u8] =
-    b"object cfe258e596ae478f05508755d7b1559681b5833a\ntype commit\ntag v1\ntagger A <a@b> 0 +0000\n\nhi\n";
-
 /// Whether the tag has its name, and the first commit as its target.
 fn is_named() -> bool {
     tags::named(TAG_BYTES).ok() == Some((BStr::new(b"v1"), Kind::Commit, id(FIRST)))
@@ -231,149 +201,6 @@ fn is_reworded(alloc: Global, hex: &[u8], size: usize) -> bool {
 #[test]
 fn encodes_reworded_commit(rt: HostRuntime) {
     assert!(rt; is_reworded(rt.alloc(), b"5efec627b4326e3fef8d92ecf3fb65b721eb2470", 157));
-}
-
-/// A store of the first commit and of the tree.
-fn store(alloc: Global) -> Result<Memory, OutOfMemory> {
-    let mut store = Memory::new(alloc);
-    store.insert(Kind::Tree, HashKind::Sha1, TREE_BYTES)?;
-    store.insert(Kind::Commit, HashKind::Sha1, FIRST_BYTES)?;
-    Ok(store)
-}
-
-/// The same store. Empty if memory runs out.
-fn stored(alloc: Global) -> Memory {
-    store(alloc).unwrap_or(Memory::new(alloc))
-}
-
-/// A store of both commits and of the tree. It lacks objects if memory runs out.
-pub fn stored_commits(alloc: Global) -> Memory {
-    let mut store = stored(alloc);
-    let _ = store.insert(Kind::Commit, HashKind::Sha1, SECOND_BYTES);
-    store
-}
-
-/// Id that `git hash-object -t commit` prints for the second commit.
-pub const SECOND: &[u8] = b"df0d5713d06ef4f4e7699d6813312b896de0436b";
-
-/// Whether the second commit has this ancestor, or none, `generations` commits before it.
-fn is_ancestor(
-    alloc: Global,
-    store: &stores::Overlay<'_, Memory>,
-    generations: u32,
-    wanted: Option<ObjectId>,
-) -> bool {
-    walks::ancestor(alloc, store, id(SECOND), generations).ok() == Some(wanted)
-}
-
-/// Whether the tree has the script.
-fn has_script(alloc: Global, store: &stores::Overlay<'_, Memory>) -> bool {
-    match paths::entry_at(alloc, store, id(TREE), b"run.sh") {
-        Ok(found) => found.is_some(),
-        Err(_) => false,
-    }
-}
-
-/// Walks and lookups succeed in the store with the second commit added.
-#[test]
-fn finds_objects_in_own_store(rt: HostRuntime) {
-    let alloc = rt.alloc();
-    let store = stores::Overlay {
-        store: stored(alloc),
-        id: id(SECOND),
-        object: Data::new(SECOND_BYTES, Kind::Commit, HashKind::Sha1),
-    };
-    assert!(rt; is_ancestor(alloc, &store, 1, Some(id(FIRST))));
-    assert!(rt; is_ancestor(alloc, &store, 2, None));
-    assert!(rt; has_script(alloc, &store));
-}
-
-/// Whether the editor moves a file.
-fn renames(alloc: Global, editor: &mut Editor<&Memory>, from: &[&str], to: &[&str]) -> bool {
-    let from = path_of(alloc, from);
-    let to = path_of(alloc, to);
-    edits::rename(editor, &from, &to, id(BLOB)).is_ok()
-}
-
-/// Whether the editor inserts a file into a directory.
-fn fills(alloc: Global, editor: &mut Editor<&Memory>, names: &[&str], name: &[&str]) -> bool {
-    let directory = path_of(alloc, names);
-    let file = (path_of(alloc, name), id(BLOB));
-    edits::fill(editor, &directory, &[file]).is_ok()
-}
-
-/// Whether a write returns this root and emits `count` trees.
-fn writes_root(alloc: Global, editor: &mut Editor<&Memory>, root: &[u8], count: usize) -> bool {
-    writes::write(alloc, editor).ok() == Some((id(root), count))
-}
-
-/// Id that `git mktree` prints for `b.txt`, `docs` and `run.sh`.
-const EDITED: &[u8] = b"cb60b5d33be5a9a5d719af0c303354a83d95214a";
-
-/// Whether the editor moves a file, inserts one into a directory, and writes the tree.
-fn is_edited(alloc: Global, editor: &mut Editor<&Memory>) -> bool {
-    renames(alloc, editor, &["a.txt"], &["b.txt"])
-        && fills(alloc, editor, &["docs"], &["c.txt"])
-        && writes_root(alloc, editor, EDITED, 2)
-}
-
-/// Whether the edits succeed on a tree of the store.
-fn is_edited_in(alloc: Global, store: &Memory) -> bool {
-    match editors::editor_of(alloc, store, id(TREE)) {
-        Ok(mut editor) => is_edited(alloc, &mut editor),
-        Err(_) => false,
-    }
-}
-
-/// Whether an editor of the blob fails: the store has no such tree.
-fn is_unknown_in(alloc: Global, store: &Memory) -> bool {
-    match editors::editor_of(alloc, store, id(BLOB)) {
-        Err(Error::FindExistingObject(_)) => true,
-        _ => false,
-    }
-}
-
-#[test]
-fn edits_stored_tree(rt: HostRuntime) {
-    let alloc = rt.alloc();
-    let store = stored(alloc);
-    assert!(rt; is_edited_in(alloc, &store));
-    assert!(rt; is_unknown_in(alloc, &store));
-}
-
-/// Whether the edits of the rows and a write have `count` replies.
-fn keeps(alloc: Global, editor: &mut Editor<Memory>, rows: &[Row], count: usize) -> bool {
-    match runs::keep_edits(alloc, editor, edits_of(alloc, rows)) {
-        Ok(replies) => replies.len() == count,
-        Err(_) => false,
-    }
-}
-
-/// A file in a directory.
-const DOCS: &[Row] = &[Row::File(&["docs", "c.txt"], BLOB)];
-
-#[test]
-fn keeps_trees_of_edits(rt: HostRuntime) {
-    let alloc = rt.alloc();
-    let mut editor = Editor::new(Tree::empty(alloc), Memory::new(alloc), HashKind::Sha1);
-    assert!(rt; keeps(alloc, &mut editor, DOCS, 2));
-    let docs = id(b"2bcada35da78a7011b5497fcf851bb11e2353a39");
-    assert!(rt; editor.store_mut().exists(docs.as_oid()));
-}
-
-/// Whether the tip after one step of these rows is the commit with this id.
-fn is_tip_of(alloc: Global, rows: &[Row], hex: &[u8]) -> bool {
-    match step_by(alloc, "A", rows) {
-        Ok(step) => imports::tip(alloc, &[step]).ok() == Some(Some(id(hex))),
-        Err(_) => false,
-    }
-}
-
-/// `git commit-tree` prints the id of the commit.
-#[test]
-fn imports_step_as_commit(rt: HostRuntime) {
-    let tip = b"dc974f0edc684fa3ce8096d4ba7b1bc74c83d4cf";
-    assert!(rt; is_tip_of(rt.alloc(), &[Row::File(&["a.txt"], BLOB)], tip));
 }
 
 const SIGNATURE: &[u8] = b"-----BEGIN PGP SIGNATURE-----\nA\n";

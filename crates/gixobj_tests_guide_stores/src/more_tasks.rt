@@ -1,8 +1,7 @@
-//! Calls more examples of docs/GUIDE.md once: values from nothing, stores in memory, work lists.
+//! Calls more examples of docs/GUIDE.md once: stores in memory, and work lists.
 
 use crate::tasks::{
-    BLOB, FIRST, FIRST_BYTES, SECOND, SECOND_BYTES, TREE, TREE_BYTES, batches, depths, differences,
-    histories, ids, memories, names, one_error, stored_commits, values, writes,
+    batches, depths, differences, histories, memories, names, one_error, stored_commits, writes,
 };
 use bstr::BString;
 use gix_object::find::existing_object::Error;
@@ -10,6 +9,7 @@ use gix_object::hash::{Kind as HashKind, ObjectId};
 use gix_object::tree::editor::Editor;
 use gix_object::tree::{EntryKind, EntryMode};
 use gix_object::{Header, Keep, Kind, Memory, Tree};
+use gixobj_tests_api::objects::{BLOB, FIRST, FIRST_BYTES, SECOND, SECOND_BYTES, TREE, TREE_BYTES};
 use gixobj_tests_api::samples::{id, path_of, string_of, tree_of};
 use std::alloc::Global;
 
@@ -69,13 +69,6 @@ fn writes_object_and_lists_ids(rt: HostRuntime) {
     assert!(rt; is_empty_tree_written(rt.alloc()));
 }
 
-/// `git hash-object -t tag` prints the id of the tag.
-#[test]
-fn encodes_values_from_nothing(rt: HostRuntime) {
-    let tag = id(b"17a06e40c0cab9c675740072ef2b116b2a6a51d4");
-    assert!(rt; values::tag_id(rt.alloc(), id(BLOB), id(FIRST)).ok() == Some(tag));
-}
-
 /// Whether the last name of a path is this one, or whether it has none.
 fn has_file_name(alloc: Global, path: &[u8], wanted: Option<&[u8]>) -> bool {
     match names::file_name(alloc, path) {
@@ -116,17 +109,6 @@ fn needs_name(alloc: Global, store: &Memory) -> bool {
         Err(one_error::ToolError::NoName) => true,
         _ => false,
     }
-}
-
-/// Whether content is verified against the blob's id.
-fn verifies_blob() -> bool {
-    ids::verify_content(Kind::Blob, b"hello\n", id(BLOB)).is_ok()
-        && ids::verify_content(Kind::Blob, b"hello", id(BLOB)).is_err()
-}
-
-#[test]
-fn verifies_content(rt: HostRuntime) {
-    assert!(rt; verifies_blob());
 }
 
 #[test]

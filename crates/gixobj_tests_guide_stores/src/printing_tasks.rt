@@ -1,13 +1,13 @@
 //! Calls the examples of docs/GUIDE.md once that print, and the one that edits a commit.
 
 use crate::more_tasks::{NESTED, nested};
-use crate::tasks::{
-    BLOB, SECOND, TREE, commit_edits, prints, programs, records, stored_commits, values,
-};
+use crate::tasks::{commit_edits, prints, programs, records, stored_commits};
 use bstr::BString;
+use gix_object::date::Time;
 use gix_object::hash::ObjectId;
 use gix_object::{Error, Exists, Memory};
-use gixobj_tests_api::samples::{id, string_of};
+use gixobj_tests_api::objects::{BLOB, SECOND, TREE};
+use gixobj_tests_api::samples::{actor, id, string_of};
 use std::alloc::Global;
 
 /// What `git cat-file --batch` prints for both commits.
@@ -111,7 +111,8 @@ fn prints_files_and_changes(rt: HostRuntime) {
 
 /// Commits the file `docs/c.txt` on top of the second commit.
 fn committed(alloc: Global, store: &mut Memory) -> Result<ObjectId, Error> {
-    let author = values::actor(alloc)?;
+    let time = Time::new(3600, 3600).unwrap_or_default();
+    let author = actor(alloc, b"A U Thor", b"author@example.com", time)?;
     let message = string_of(alloc, b"third\n");
     commit_edits::commit_file(
         alloc,
