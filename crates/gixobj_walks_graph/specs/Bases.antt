@@ -1,4 +1,4 @@
--- Merge bases (git-merge-base), and how far two commits are apart (git-rev-list, `--left-right --count A...B`).
+-- Merge bases (git-merge-base).
 use Rattle.std.specs.Prelude.{◌↔◌, List, Contains}
 use Rattle.gixobj_walks_graph.specs.Graph.{AreOnce, Graph, HasAncestor, Reaches}
 

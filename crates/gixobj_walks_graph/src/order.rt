@@ -6,6 +6,6 @@
 pub enum Order {
     /// The newest first (`--date-order`).
     Date,
-    /// The parents of the last commit first, so that lines of history stay together (`--topo-order`).
+    /// The one that became ready last, so that lines of history stay together (`--topo-order`).
     Topological,
 }

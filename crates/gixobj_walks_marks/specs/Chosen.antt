@@ -14,15 +14,15 @@ IsChosen left right number = IsMarked left number × (¬ IsMarked right number)
 abbrev pub IsShared : List Bool → List Bool → ℕ → Type 0
 IsShared left right number = IsMarked left number × IsMarked right number
 
--- a commit that is not read, which one of the sides has
+-- an unread commit that either side has
 abbrev pub IsWantedAt : Nodes → List Bool → List Bool → ℕ → Type 0
 IsWantedAt nodes left right number = IsUnread nodes number × (IsMarked left number ⊎ IsMarked right number)
 
--- each commit that is not read, which one of the sides has, is marked
+-- each unread commit that either side has is marked
 abbrev pub AreWantedMarked : Nodes → List Bool → List Bool → List Bool → Type 0
 AreWantedMarked nodes left right marked = (number : ℕ) → IsWantedAt nodes left right number → IsMarked marked number
 
--- a commit reaches each one that is not read, which one of the sides has
+-- the commit reaches each unread one that either side has
 abbrev pub ReachesWanted : Nodes → List Bool → List Bool → ℕ → Type 0
 ReachesWanted nodes left right from = (number : ℕ) → IsWantedAt nodes left right number
     → Reaches (graph_at nodes) from number

@@ -1,4 +1,4 @@
-//! Which commits two sides share, and whether a search for merge bases has read enough.
+//! Which commits are selected, and which are candidates for merge bases.
 ghost use Rattle.std.specs.Prelude.{◌≡◌, ◌<◌, ◌↔◌, ◌⊎◌, ◌∷◌, [], ℕ, Contains, IfOk, IsTrue, List, length};
 ghost use Rattle.std.specs.List.{AllByRecursion};
 ghost use Rattle.std.specs.List.Sorted.{IsStrictlyIncreasing};
@@ -33,7 +33,7 @@ pub fn selected(alloc: Global, left: &[bool], right: &[bool]) -> Result<Vec<bool
     chosen_marks(alloc, left, right)
 }
 
-// Marks the commits that the left side has, and the right side doesn't.
+/// Marks the commits that the left side has, and the right side doesn't.
 fn chosen_marks(alloc: Global, left: &[bool], right: &[bool]) -> Result<Vec<bool>, AllocError>
     requires { length right.now ≡ length left.now }
     ensures { IfOk result (λ chosen. MarksBelow (IsChosen left.now right.now) (length left.now)
@@ -79,7 +79,7 @@ pub fn candidates(
     list_chosen(alloc, &shared, &blocked)
 }
 
-// Marks the commits that both sides have.
+/// Marks the commits that both sides have.
 fn shared_marks(alloc: Global, left: &[bool], right: &[bool]) -> Result<Vec<bool>, AllocError>
     requires { length right.now ≡ length left.now }
     ensures { IfOk result (λ shared. MarksBelow (IsShared left.now right.now) (length left.now)
@@ -93,7 +93,7 @@ fn shared_marks(alloc: Global, left: &[bool], right: &[bool]) -> Result<Vec<bool
     Ok(shared)
 }
 
-// Tests whether both sides have a commit.
+/// Tests whether both sides have a commit.
 fn is_shared(left: &[bool], right: &[bool], number: usize) -> bool
     requires left { number < length left.now }
     requires right { number < length right.now }
@@ -102,7 +102,7 @@ fn is_shared(left: &[bool], right: &[bool], number: usize) -> bool
     if left[number] { right[number] } else { false }
 }
 
-// Lists the commits that the left side has, and the right side doesn't, ascending.
+/// Lists the commits that the left side has, and the right side doesn't, ascending.
 fn list_chosen(alloc: Global, left: &[bool], right: &[bool]) -> Result<Vec<usize>, AllocError>
     requires { length right.now ≡ length left.now }
     ensures { IfOk result (λ found. ListsBelow (IsChosen left.now right.now) (length left.now)
@@ -116,7 +116,7 @@ fn list_chosen(alloc: Global, left: &[bool], right: &[bool]) -> Result<Vec<usize
     Ok(found)
 }
 
-// Marks the parents of the commits of a side.
+/// Marks the parents of the commits of a side.
 fn mark_parents_of_all(nodes: &[Option<Node>], side: &[bool], marked: &mut Vec<bool>)
     requires known { AreParentsKnown nodes.now }
     requires side { length side.now ≡ length nodes.now }
@@ -129,7 +129,7 @@ fn mark_parents_of_all(nodes: &[Option<Node>], side: &[bool], marked: &mut Vec<b
     }
 }
 
-// Marks the parents of a commit, if the side has it.
+/// Marks the parents of a commit, if the side has it.
 fn mark_parents_of(nodes: &[Option<Node>], side: &[bool], marked: &mut Vec<bool>, number: usize)
     requires known { AreParentsKnown nodes.now }
     requires number { number < length nodes.now }
@@ -144,7 +144,7 @@ fn mark_parents_of(nodes: &[Option<Node>], side: &[bool], marked: &mut Vec<bool>
     mark_known_parents(nodes, marked, number);
 }
 
-// Marks the parents of a commit, if it is read.
+/// Marks the parents of a commit, if it is read.
 fn mark_known_parents(nodes: &[Option<Node>], marked: &mut Vec<bool>, number: usize)
     requires known { AreParentsKnown nodes.now }
     requires number { number < length nodes.now }
@@ -157,7 +157,7 @@ fn mark_known_parents(nodes: &[Option<Node>], marked: &mut Vec<bool>, number: us
     }
 }
 
-// Marks these numbers.
+/// Marks these numbers.
 fn mark_numbers(marked: &mut Vec<bool>, numbers: &[usize])
     requires { AllByRecursion (λ number. number < length marked.old.items) numbers.now }
     ensures { AddsMarks (Contains numbers.now) marked.old.items marked.new.items }

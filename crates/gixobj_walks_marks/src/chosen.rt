@@ -30,7 +30,7 @@ pub fn is_wanted(nodes: &[Option<Node>], left: &[bool], right: &[bool], number: 
     }
 }
 
-/// Tests whether each commit that is not read, which one of the sides has, is marked.
+/// Tests whether each unread commit that either side has is marked.
 pub fn are_wanted_marked(
     nodes: &[Option<Node>],
     left: &[bool],
@@ -50,7 +50,7 @@ pub fn are_wanted_marked(
     true
 }
 
-// Tests whether one of the sides has a commit that is neither read nor marked.
+/// Tests whether one of the sides has a commit that is neither read nor marked.
 fn is_missed(
     nodes: &[Option<Node>],
     left: &[bool],
@@ -86,7 +86,7 @@ pub fn is_bottom(nodes: &[Option<Node>], left: &[bool], right: &[bool], number: 
     }
 }
 
-// Tests whether a commit is chosen, and none of its parents is.
+/// Tests whether a commit is chosen, and none of its parents is.
 fn is_last(left: &[bool], right: &[bool], number: usize, parents: &[usize]) -> bool
     requires number { number < length left.now }
     requires right { length right.now ≡ length left.now }
@@ -101,7 +101,7 @@ fn is_last(left: &[bool], right: &[bool], number: usize, parents: &[usize]) -> b
     }
 }
 
-// Tests whether none of the commits is chosen.
+/// Tests whether none of the commits is chosen.
 fn is_none_chosen(left: &[bool], right: &[bool], numbers: &[usize]) -> bool
     requires right { length right.now ≡ length left.now }
     requires numbers { AllByRecursion (λ number. number < length left.now) numbers.now }

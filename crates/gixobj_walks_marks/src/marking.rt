@@ -44,7 +44,7 @@ pub fn mark_reached(
     Ok(())
 }
 
-// Marks the parents of a commit, if it is read.
+/// Marks the parents of a commit, if it is read.
 fn mark_parents(
     nodes: &[Option<Node>],
     marked: &mut [bool],
@@ -63,7 +63,7 @@ fn mark_parents(
     }
 }
 
-// Marks commits, and pushes those that were not marked on the stack.
+/// Marks commits, and pushes those that were not marked on the stack.
 fn mark_each(
     marked: &mut [bool],
     stack: &mut Vec<usize>,
@@ -78,7 +78,7 @@ fn mark_each(
     Ok(())
 }
 
-// Marks a commit, and pushes it on the stack if it was not marked.
+/// Marks a commit, and pushes it on the stack if it was not marked.
 fn mark(marked: &mut [bool], stack: &mut Vec<usize>, number: usize) -> Result<(), AllocError>
     requires { number < length marked.old }
     ensures { OnOk result (Spreads (number ∷ []) marked.old marked.new stack.old.items stack.new.items) }

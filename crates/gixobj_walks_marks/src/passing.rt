@@ -51,7 +51,7 @@ pub fn pass_mark(
     }
 }
 
-// Marks several commits, and what they reach.
+/// Marks several commits, and what they reach.
 fn mark_all_reached(
     alloc: Global,
     nodes: &[Option<Node>],

@@ -291,7 +291,7 @@ impl Reading {
     }
 }
 
-// Takes the next commit out of the queue, and adds commits that are not read and have no mark.
+/// Takes the next commit out of the queue, and adds commits that are not read and have no mark.
 fn replace_next(
     nodes: &mut Vec<Option<Node>>,
     left: &mut Vec<bool>,
@@ -314,7 +314,7 @@ fn replace_next(
     Ok(())
 }
 
-// Adds a commit that is not read and has no mark, and returns its number.
+/// Adds a commit that is not read and has no mark, and returns its number.
 fn push_unread(
     nodes: &mut Vec<Option<Node>>,
     left: &mut Vec<bool>,

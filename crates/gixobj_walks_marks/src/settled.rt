@@ -54,7 +54,7 @@ pub fn is_settled_walk(
     all_reach_wanted(alloc, nodes, left, right, &found)
 }
 
-/// Tests whether each of these commits reaches each one that is not read, which one of the sides has.
+/// Tests whether each of these commits reaches each unread one that either side has.
 pub fn all_reach_wanted(
     alloc: Global,
     nodes: &[Option<Node>],
@@ -77,7 +77,7 @@ pub fn all_reach_wanted(
     Ok(true)
 }
 
-// Tests whether a commit reaches each one that is not read, which one of the sides has.
+/// Tests whether a commit reaches each unread one that either side has.
 fn reaches_wanted(
     alloc: Global,
     nodes: &[Option<Node>],

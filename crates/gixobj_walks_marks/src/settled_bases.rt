@@ -55,7 +55,7 @@ pub fn is_settled_bases(
     all_reach_wanted(alloc, nodes, left, right, &found)
 }
 
-// Tests whether both sides have each commit that is not read, which one of them has.
+/// Tests whether both sides have each unread commit that either side has.
 fn are_wanted_shared(nodes: &[Option<Node>], left: &[bool], right: &[bool]) -> bool
     requires left { length left.now ≡ length nodes.now }
     requires right { length right.now ≡ length nodes.now }
@@ -69,7 +69,7 @@ fn are_wanted_shared(nodes: &[Option<Node>], left: &[bool], right: &[bool]) -> b
     }
 }
 
-// Tests whether each of these commits is read.
+/// Tests whether each of these commits is read.
 fn are_read(nodes: &[Option<Node>], numbers: &[usize]) -> bool
     requires { AllByRecursion (λ number. number < length nodes.now) numbers.now }
     ensures { IsTrue result ↔ ((number : ℕ) → Contains numbers.now number → IsRead (graph_at nodes.now) number) }
@@ -82,7 +82,7 @@ fn are_read(nodes: &[Option<Node>], numbers: &[usize]) -> bool
     true
 }
 
-// Tests whether a commit is read.
+/// Tests whether a commit is read.
 fn is_read(nodes: &[Option<Node>], number: usize) -> bool
     requires { number < length nodes.now }
     ensures { IsTrue result ↔ IsRead (graph_at nodes.now) number }
