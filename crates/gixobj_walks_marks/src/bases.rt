@@ -135,7 +135,8 @@ fn mark_parents_of(nodes: &[Option<Node>], side: &[bool], marked: &mut Vec<bool>
     requires number { number < length nodes.now }
     requires side { length side.now ≡ length nodes.now }
     requires marked { length marked.old.items ≡ length nodes.now }
-    ensures { AddsMarks (λ parent. IsMarked side.now number × HasParent (graph_at nodes.now) number parent)
+    ensures { AddsMarks
+        (λ parent. IsMarked side.now number × HasParent (graph_at nodes.now) number parent)
         marked.old.items marked.new.items }
 {
     if !side[number] {

@@ -70,7 +70,8 @@ fn mark_each(
     numbers: &[usize],
 ) -> Result<(), AllocError>
     requires { AllByRecursion (λ number. number < length marked.old) numbers.now }
-    ensures { OnOk result (Spreads numbers.now marked.old marked.new stack.old.items stack.new.items) }
+    ensures { OnOk result (Spreads numbers.now marked.old marked.new
+        stack.old.items stack.new.items) }
 {
     for number in numbers {
         mark(marked, stack, *number)?;
@@ -81,7 +82,8 @@ fn mark_each(
 /// Marks a commit, and pushes it on the stack if it was not marked.
 fn mark(marked: &mut [bool], stack: &mut Vec<usize>, number: usize) -> Result<(), AllocError>
     requires { number < length marked.old }
-    ensures { OnOk result (Spreads (number ∷ []) marked.old marked.new stack.old.items stack.new.items) }
+    ensures { OnOk result (Spreads (number ∷ []) marked.old marked.new
+        stack.old.items stack.new.items) }
 {
     if !marked[number] {
         marked[number] = true;

@@ -41,7 +41,8 @@ pub fn pass_mark(
     requires number { number < length nodes.now }
     requires parents { AllByRecursion (λ parent. parent < length nodes.now) parents.now }
     requires closed { IsClosed nodes.now marked.old.items }
-    ensures marks { OnOk result (PassesMark nodes.now number parents.now marked.old.items marked.new.items) }
+    ensures marks { OnOk result (PassesMark nodes.now number parents.now
+        marked.old.items marked.new.items) }
     ensures lengths { OnOk result (length marked.new.items ≡ length marked.old.items) }
 {
     if marked[number] {

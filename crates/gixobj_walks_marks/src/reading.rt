@@ -157,8 +157,10 @@ impl Reading {
     pub fn add(self, seconds: u64) -> Result<(Reading, usize), AllocError>
         ensures number { IfOk result (λ added. added.1 ≡ length self.nodes) }
         ensures nodes { IfOk result (λ added. added.0.nodes ≡ self.nodes ++ None ∷ []) }
-        ensures left { IfOk result (λ added. KeepsMarks self.nodes self.left added.0.nodes added.0.left) }
-        ensures right { IfOk result (λ added. KeepsMarks self.nodes self.right added.0.nodes added.0.right) }
+        ensures left { IfOk result (λ added.
+            KeepsMarks self.nodes self.left added.0.nodes added.0.left) }
+        ensures right { IfOk result (λ added.
+            KeepsMarks self.nodes self.right added.0.nodes added.0.right) }
     {
         let Reading {
             mut nodes,
@@ -261,11 +263,15 @@ impl Reading {
         seconds: u64,
     ) -> Result<Reading, AllocError>
         requires next { self.next ≡ Some number }
-        requires parents { AllByRecursion (λ parent. parent < length self.nodes + added) parents.items }
-        ensures nodes { IfOk result (λ done. done.nodes ≡ slice_set (self.nodes ++ replicate added None) number
+        requires parents { AllByRecursion (λ parent. parent < length self.nodes + added)
+            parents.items }
+        ensures nodes { IfOk result (λ done. done.nodes
+            ≡ slice_set (self.nodes ++ replicate added None) number
             (Some (record { parents = parents.items; seconds = seconds }))) }
-        ensures left { IfOk result (λ done. KeepsMarks self.nodes self.left done.nodes done.left) }
-        ensures right { IfOk result (λ done. KeepsMarks self.nodes self.right done.nodes done.right) }
+        ensures left { IfOk result (λ done.
+            KeepsMarks self.nodes self.left done.nodes done.left) }
+        ensures right { IfOk result (λ done.
+            KeepsMarks self.nodes self.right done.nodes done.right) }
         ensures reads { IfOk result (λ done. reads done.nodes ≡ reads self.nodes + 1) }
     {
         let Reading {
@@ -303,7 +309,8 @@ fn replace_next(
     read: usize,
 ) -> Result<(), AllocError>
     requires next { next_of (heap_items queue.old) ≡ Some number }
-    requires reading { IsReading nodes.old.items left.old.items right.old.items (heap_items queue.old) read }
+    requires reading { IsReading nodes.old.items left.old.items right.old.items
+        (heap_items queue.old) read }
     ensures { OnOk result (ReplacesNext number added nodes.old.items left.old.items right.old.items
         nodes.new.items left.new.items right.new.items (heap_items queue.new) read) }
 {

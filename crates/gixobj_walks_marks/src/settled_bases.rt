@@ -72,7 +72,8 @@ fn are_wanted_shared(nodes: &[Option<Node>], left: &[bool], right: &[bool]) -> b
 /// Tests whether each of these commits is read.
 fn are_read(nodes: &[Option<Node>], numbers: &[usize]) -> bool
     requires { AllByRecursion (λ number. number < length nodes.now) numbers.now }
-    ensures { IsTrue result ↔ ((number : ℕ) → Contains numbers.now number → IsRead (graph_at nodes.now) number) }
+    ensures { IsTrue result
+        ↔ ((number : ℕ) → Contains numbers.now number → IsRead (graph_at nodes.now) number) }
 {
     for number in numbers {
         if !is_read(nodes, *number) {
