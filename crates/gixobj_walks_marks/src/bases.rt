@@ -1,14 +1,14 @@
 //! Which commits are selected, and which are candidates for merge bases.
-ghost use Rattle.std.specs.Prelude.{◌≡◌, ◌<◌, ◌↔◌, ◌⊎◌, ◌∷◌, [], ℕ, Contains, IfOk, IsTrue, List, length};
+ghost use Rattle.std.specs.Prelude.{◌≡◌, ◌<◌, ◌↔◌, ◌∷◌, [], ℕ, Contains, IfOk, IsTrue, List, length};
 ghost use Rattle.std.specs.List.{AllByRecursion};
 ghost use Rattle.std.specs.List.Sorted.{IsStrictlyIncreasing};
-ghost use Rattle.gixobj_walks_graph.specs.Graph.{HasParent, IsRead};
+ghost use Rattle.gixobj_walks_graph.specs.Graph.{HasParent};
 ghost use Rattle.gixobj_walks_graph.specs.Numbered.{AreParentsKnown, IsMarked, Nodes, graph_at};
 ghost use Rattle.gixobj_walks_graph.specs.Walks.{IsSelected};
-ghost use Rattle.gixobj_walks_marks.specs.Chosen.{AddsMarks, HasManyCandidates, HasMarkedChild, IsCandidateAt};
+ghost use Rattle.gixobj_walks_marks.specs.Chosen.{AddsMarks, HasMarkedChild, IsCandidateAt};
 ghost use Rattle.gixobj_walks_marks.specs.Chosen.{IsChosen, IsShared, ListsBelow, MarksBelow};
 ghost use Rattle.gixobj_walks_marks.specs.Marks.{HasMarks};
-ghost use Rattle.gixobj_walks_marks.specs.Settled.{IsCandidate, IsSettledBases};
+ghost use Rattle.gixobj_walks_marks.specs.Settled.{IsCandidate};
 ghost use Rattle.gixobj_walks_marks.specs.Spreading.{parents_at};
 
 use crate::chosen::{is_chosen, push_if};
