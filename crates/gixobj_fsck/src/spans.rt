@@ -1,4 +1,4 @@
-//! The longest prefix of a input whose bytes are of one class.
+//! The longest prefix of an input whose bytes are of one class.
 ghost use Rattle.std.specs.Prelude.{◌≡◌};
 ghost use Rattle.gixobj_fsck.specs.Spans.{IsSpan, is_of_class};
 ghost use Rattle.gixobj_fsck.specs.declared.spans.Class.TheVariants as class;
