@@ -8,6 +8,7 @@ use Rattle.gixobj_walks_graph.specs.Numbered.{IsMarked, Nodes, graph_at}
 
 -- ---- what is known of a commit by its number
 
+-- the parents of a commit that is read, and none of another
 abbrev pub parents_in : Option (Option (NodeView ℕ)) → List ℕ
 parents_in None = []
 parents_in (Some None) = []
@@ -17,6 +18,7 @@ parents_in (Some (Some node)) = node.parents
 abbrev pub parents_at : Nodes → ℕ → List ℕ
 parents_at nodes number = parents_in (slice_get nodes number)
 
+-- the seconds of a commit that is read, and 0 of another
 abbrev pub seconds_in : Option (Option (NodeView ℕ)) → ℕ
 seconds_in None = 0
 seconds_in (Some None) = 0
@@ -40,6 +42,7 @@ AreBelow bound numbers = (k : ℕ) → k < length numbers → slice_index number
 abbrev pub is_named : ℕ → List ℕ → Bool
 is_named number parents = list_any (nat_eq number) parents
 
+-- whether the number is marked
 abbrev pub is_marked : List Bool → ℕ → Bool
 is_marked marked number = slice_index_or marked number false
 

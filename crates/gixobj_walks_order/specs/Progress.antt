@@ -14,6 +14,7 @@ use Rattle.gixobj_walks_order.specs.declared.state.State.{State}
 abbrev pub all_of : {V : Type 0} → Waiting V → List V
 all_of waiting = waiting.dated ++ waiting.found
 
+-- the commits that wait, and those that are listed, are ready and each once, and none is both
 pub record IsProgress {V : Type 0} (G : Graph V) (Selected : V → Type 0) (listed : List V) (waiting : Waiting V)
     : Type 0 where
   pub ready : (id : V) → Contains (all_of waiting) id → IsReady G Selected listed id
@@ -41,6 +42,7 @@ pub record IsStateAt (nodes : Nodes) (selected : List Bool) (counts stamps : Lis
   pub progress : IsProgress (graph_at nodes) (IsMarked selected) (reverse ids) (waiting_of queue)
   pub complete : IsComplete (graph_at nodes) (IsMarked selected) (reverse ids) (waiting_of queue)
 
+-- the invariant of a list that is being made
 abbrev pub IsState : Nodes → List Bool → State → Type 0
 IsState nodes selected state =
     IsStateAt nodes selected state.counts.items state.stamps.items state.pending.items state.queue state.ids.items

@@ -7,7 +7,7 @@ use crate::known::parents_of;
 use gixobj_walks_graph::Node;
 use std::alloc::{AllocError, Global};
 
-/// Counts one child more for each of these parents, for a repeated one once, since its stamp says that it is counted.
+/// Counts one more child for each of these parents, once for a repeated one: its stamp says that it is counted.
 pub(crate) fn count_child(
     counts: &mut [usize],
     stamps: &mut [usize],
@@ -32,7 +32,7 @@ pub(crate) fn count_child(
     }
 }
 
-/// Of each commit, how many of the pending ones have it as a parent.
+/// Counts the pending children of each commit.
 pub(crate) fn count_children(
     alloc: Global,
     nodes: &[Option<Node>],
@@ -59,7 +59,7 @@ pub(crate) fn count_children(
     Ok(counts)
 }
 
-/// Takes one child from the count of each of these parents. The selected ones that have none left come in the order
+/// Takes one child from the count of each of these parents. Returns the selected ones that have no other, in the order
 /// of their last mentions.
 pub(crate) fn release_parents(
     alloc: Global,
@@ -96,7 +96,7 @@ pub(crate) fn release_parents(
     Ok(ready)
 }
 
-/// The selected tips without a pending child, each at its first mention.
+/// Returns the selected tips without a pending child, each at its first mention.
 pub(crate) fn first_ready(
     alloc: Global,
     selected: &[bool],

@@ -5,7 +5,7 @@ ghost use Rattle.gixobj_walks_order.specs.Counts.{parents_at, seconds_at};
 
 use gixobj_walks_graph::Node;
 
-/// The parents of a commit, none if it isn't read.
+/// Returns the parents of a commit, none if it isn't read.
 pub(crate) fn parents_of(nodes: &[Option<Node>], number: usize) -> &[usize]
     requires { number < length nodes.now }
     ensures { result.now ≡ parents_at nodes.now number }
@@ -16,7 +16,7 @@ pub(crate) fn parents_of(nodes: &[Option<Node>], number: usize) -> &[usize]
     }
 }
 
-/// The seconds of a commit, 0 if it isn't read.
+/// Returns the seconds of a commit, 0 if it isn't read.
 pub(crate) fn seconds_of(nodes: &[Option<Node>], number: usize) -> u64
     requires { number < length nodes.now }
     ensures { result ≡ seconds_at nodes.now number }
@@ -27,7 +27,7 @@ pub(crate) fn seconds_of(nodes: &[Option<Node>], number: usize) -> u64
     }
 }
 
-/// Whether a commit is marked.
+/// Tests whether some commit is marked.
 pub(crate) fn is_any_marked(marked: &[bool]) -> bool
     ensures { IsTrue result ↔ ((number : ℕ) × IsMarked marked.now number) }
 {

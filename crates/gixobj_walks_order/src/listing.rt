@@ -14,8 +14,8 @@ use std::alloc::Global;
 /// Lists the selected commits in this order, from the tips on: a commit once each selected child of it is listed
 /// (git-rev-list, "Commit Ordering"). Of several such commits `order` says which one is next.
 ///
-/// Reads each commit and each mention of a parent twice, and allocates three numbers and a mark for each
-/// commit, a key for each that waits by its date, and briefly one number more for each.
+/// Reads each commit and each mention of a parent twice. Allocates three numbers and a mark for each commit, briefly
+/// one number more, and a key for each commit that waits by its date.
 ///
 /// # Errors
 ///

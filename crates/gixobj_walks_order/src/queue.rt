@@ -11,7 +11,7 @@ use gixobj_walks_graph::{Node, Order};
 use std::alloc::{AllocError, Global};
 use std::collections::BTreeSet;
 
-/// A commit that waits by its date. Keys rise from the newest commit to the oldest, of equal dates by the joining.
+/// A commit that waits by its date. Keys rise from the newest commit to the oldest, then in the order of joining.
 #[derive(Clone, Copy, Debug, PartialEq, Eq, PartialOrd, Ord)]
 pub(crate) struct Key {
     /// How far its seconds are below the largest number of seconds.
@@ -74,7 +74,7 @@ pub(crate) fn insert_all_by_date(
     Ok(())
 }
 
-/// The commits join those that wait.
+/// Adds commits to those that wait: by their dates, or at the end.
 pub(crate) fn join(
     queue: &mut Queue,
     nodes: &[Option<Node>],
@@ -95,7 +95,7 @@ pub(crate) fn join(
     }
 }
 
-/// How many numbers these are: fewer than fit in memory.
+/// Counts these numbers: fewer than 2^60, since they are in memory.
 pub(crate) fn count(numbers: &[usize]) -> usize
     ensures exact { result ≡ length numbers.now }
     ensures small { result < 2 ^ 60 }
@@ -103,7 +103,7 @@ pub(crate) fn count(numbers: &[usize]) -> usize
     numbers.len()
 }
 
-/// The next of the commits that wait: the one that was found last, else the newest.
+/// Takes the next of the commits that wait: the one that was found last, else the newest.
 pub(crate) fn take_next(queue: &mut Queue) -> Option<usize>
     ensures next { IfSome result (λ number. IsNext (waiting_of queue.old) number (waiting_of queue.new)) }
     ensures keys { IfSome result (λ _. (popped : List Key) × (queue.old.dated.keys ≡ popped ++ queue.new.dated.keys)) }

@@ -17,7 +17,7 @@ use std::collections::BTreeSet;
 pub(crate) struct State {
     /// Of each commit, how many selected children aren't listed.
     pub(crate) counts: Vec<usize>,
-    /// Of each commit, which one of the list had it as a parent last, counted from 1.
+    /// For each commit the position of its last listed child, counted from 1.
     pub(crate) stamps: Vec<usize>,
     /// Which commits are selected and not listed.
     pub(crate) pending: Vec<bool>,
@@ -27,7 +27,7 @@ pub(crate) struct State {
     pub(crate) ids: Vec<usize>,
 }
 
-/// The state before the first commit is listed.
+/// Begins a list: no commit is listed, and the tips that are ready wait.
 pub(crate) fn begin(
     alloc: Global,
     nodes: &[Option<Node>],
