@@ -17,8 +17,7 @@ abbrev pub EndsRun : (ℕ → Bool) → List ℕ → Type 0
 EndsRun test [] = ⊤
 EndsRun test (byte ∷ rest) = IsFalse (test byte)
 
--- the line has this number: at most one sign and then digits, as many as there are; only white space is between the
--- first `>` of the line and the number
+-- the line has this number after its first `>` and white space: at most one sign and then digits, as many as there are
 pub record HasNumber (line number : List ℕ) : Type 0 where
   pub before : List ℕ
   pub gap : List ℕ
