@@ -379,7 +379,8 @@ static int fsck_codes(void) {
 
 int main(void) {
   if (actors() || ids() || headers() || entries() || modes() || tokens() || tag_tokens() || named_headers() ||
-      buffers() || fsck() || findings() || fsck_codes() || edits() || lossy_trees() || missing_trees() || writes() || signatures())
+      buffers() || fsck() || findings() || fsck_codes() || edits() || lossy_trees() || missing_trees() || writes() ||
+      signatures())
     return 1;
   puts("ok");
   return 0;

@@ -22,8 +22,8 @@ __all__ = [
     "LIBRARIES", "Actor", "Entry", "Error", "Finding", "Hash", "InvalidSizeError", "Kind", "LossyTreeError",
     "MalformedError", "Message", "MissingLibraryError", "MissingTreeError", "NotEncodableError", "Report", "ScriptError",
     "Severity", "UnknownCodeError", "UnknownKindError", "actor", "check", "commit_header", "commit_signature", "edit",
-    "entries", "fsck", "fsck_report", "loose_header", "message", "object_id", "reencode", "summary", "tag_signature", "tag_tokens",
-    "tokens", "trailers", "unfold", "verify",
+    "entries", "fsck", "fsck_report", "loose_header", "message", "object_id", "reencode", "summary", "tag_signature",
+    "tag_tokens", "tokens", "trailers", "unfold", "verify",
 ]
 
 
