@@ -14,7 +14,7 @@ pub record IsBottom {V : Type 0} (R : Graph V) (tips hidden : List V) (id : V) :
   pub selected : IsSelected R tips hidden id
   pub last : (parent : V) → HasParent R id parent → ¬ IsSelected R tips hidden parent
 
--- a commit that is not read, which tips or hidden commits reach
+-- an unread commit that tips or hidden commits reach
 pub record IsWanted {V : Type 0} (R : Graph V) (tips hidden : List V) (id : V) : Type 0 where
   pub unread : ¬ IsRead R id
   pub reached : IsReachedFrom R tips id ⊎ IsReachedFrom R hidden id
@@ -29,7 +29,7 @@ pub record IsCandidate {V : Type 0} (R : Graph V) (one other id : V) : Type 0 wh
   pub common : IsCommon R one other id
   pub best : (child : V) → IsCommon R one other child → ¬ HasParent R child id
 
--- a commit that is not read, which one of the two commits reaches
+-- an unread commit that either of the two reaches
 pub record IsWantedBase {V : Type 0} (R : Graph V) (one other id : V) : Type 0 where
   pub unread : ¬ IsRead R id
   pub reached : Reaches R one id ⊎ Reaches R other id
