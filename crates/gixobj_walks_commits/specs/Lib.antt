@@ -1,4 +1,3 @@
 pub mod Nodes
-pub mod Paths
 pub mod Seconds
 pub mod Tags
