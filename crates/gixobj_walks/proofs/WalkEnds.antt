@@ -2,12 +2,15 @@
 use Rattle.std.proofs.Common.{◌⊎◌, ◌↔◌, ◌<◌, ℕ, zero, suc, List, [], ◌∷◌, ⊎_elim, inl, refl, length, arith}
 use Rattle.std.specs.Prelude.{Contains}
 use Rattle.std.specs.List.{AllByRecursion}
-use Rattle.gixobj_walks_graph.specs.Graph.{Graph, HasAncestor, IsAcyclic, IsFunctional, IsIncluded, IsRead, LeadsTo}
-use Rattle.gixobj_walks_graph.specs.Walks.{AreChildrenFirst, IsSelected, IsWalk}
+use Rattle.gixobj_walks_graph.specs.Graph.{AreOnce, Graph, HasAncestor, IsAcyclic, IsFunctional, IsIncluded, IsRead, LeadsTo}
+use Rattle.gixobj_walks_graph.specs.Listing.{IsListing}
+use Rattle.gixobj_walks_graph.specs.Walks.{AreChildrenFirst, IsSelected, IsWalk, ListsSelected}
 use Rattle.gixobj_walks_graph.specs.declared.order.Order.{Order}
 use Rattle.gixobj_walks_marks.specs.Settled.{IsComplete, IsSettledWalk}
 use Rattle.gixobj_walks_marks.proofs.Ends.{HaveBottoms, complete_is_exact, settled_walk_is_exact}
 use Rattle.gixobj_walks_marks.proofs.Paths.{read_has_parent, reached_from_reaches, reaches_parent}
+use Rattle.gixobj_walks_order.proofs.Lines.{topological_follows_lines}
+use Rattle.gixobj_walks_order.proofs.NewestFirst.{date_is_newest_first}
 use Rattle.gixobj_walks.proofs.LargerGraphs.{listing_in_larger}
 
 contained_later : {X : Type 0} (first : X) (xs : List X) (x : X) → Contains xs x → Contains (first ∷ xs) x
@@ -19,6 +22,19 @@ all_of_contained : {X : Type 0} (P Q : X → Type 0) (xs : List X) → ((x : X) 
 all_of_contained P Q [] weaker all = tt
 all_of_contained P Q (x ∷ xs) weaker all =
     (weaker x (0, omega arith, refl) all.0, all_of_contained P Q xs (λ y has. weaker y (contained_later x xs y has)) all.1)
+
+-- what follows from the order of a list, with what it contains
+pub walk_of_listing : {V : Type 0} (G : Graph V) → IsFunctional G → (order : Order) (tips hidden ids : List V)
+    → ListsSelected G tips hidden ids → AreOnce ids → AreChildrenFirst G ids
+    → IsListing G order (IsSelected G tips hidden) tips ids → IsWalk G order tips hidden ids
+walk_of_listing G functional order tips hidden ids exact once children_first listing = record {
+  exact = exact;
+  once = once;
+  children_first = children_first;
+  listing = listing;
+  newest_first = date_is_newest_first G (IsSelected G tips hidden) order tips ids listing;
+  follows_lines = topological_follows_lines G (IsSelected G tips hidden) functional order tips ids listing;
+}
 
 module _ {V : Type 0} (R G : Graph V) (tips hidden : List V) (included : IsIncluded R G) (functional : IsFunctional G)
     (same : (id : V) → IsSelected R tips hidden id ↔ IsSelected G tips hidden id)
@@ -49,13 +65,12 @@ module _ {V : Type 0} (R G : Graph V) (tips hidden : List V) (included : IsInclu
   )
 
   walk_in_larger : (order : Order) (ids : List V) → IsWalk R order tips hidden ids → IsWalk G order tips hidden ids
-  walk_in_larger order ids walk = record {
-    exact = λ id. ((λ has. (same id).0 ((walk.exact id).0 has)), (λ selected. (walk.exact id).1 ((same id).1 selected)));
-    once = walk.once;
-    children_first = children_first_in_larger ids (λ id has. (same id).0 ((walk.exact id).0 has)) walk.children_first;
-    listing = listing_in_larger R G (IsSelected R tips hidden) (IsSelected G tips hidden) included functional read same order
-        tips ids walk.listing;
-  }
+  walk_in_larger order ids walk = walk_of_listing G functional order tips hidden ids
+      (λ id. ((λ has. (same id).0 ((walk.exact id).0 has)), (λ selected. (walk.exact id).1 ((same id).1 selected))))
+      walk.once
+      (children_first_in_larger ids (λ id has. (same id).0 ((walk.exact id).0 has)) walk.children_first)
+      (listing_in_larger R G (IsSelected R tips hidden) (IsSelected G tips hidden) included functional read same order tips ids
+      walk.listing)
 
 -- if everything is read
 pub walk_of_complete : {V : Type 0} (R G : Graph V) (tips hidden : List V) → IsIncluded R G → IsFunctional G

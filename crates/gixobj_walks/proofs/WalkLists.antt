@@ -30,7 +30,7 @@ use Rattle.gixobj_walks.proofs.NamedEnds.{selected_named, selected_numbered}
 use Rattle.gixobj_walks.proofs.NamedPaths.{below_of_name, name_below, name_of_contained, name_unique, named_steps, numbered_parent, read_named, read_numbered}
 use Rattle.gixobj_walks.proofs.NamedPaths.{reached_named, reached_numbered}
 use Rattle.gixobj_walks.proofs.NamedWalks.{children_first_named, once_named, selected_are_named}
-use Rattle.gixobj_walks.proofs.WalkEnds.{walk_of_settled}
+use Rattle.gixobj_walks.proofs.WalkEnds.{walk_of_listing, walk_of_settled}
 use Rattle.gixobj_walks.specs.Machine.{IsWalking, WalkView, given_graph, names_of}
 use Rattle.gixobj_walks.specs.WalkErrors.{IsWalkListError}
 use Rattle.gixobj_walks_order.specs.declared.error.ListError.{ListError}
@@ -286,26 +286,26 @@ module _ (ids : List ObjectId) (reading : ReadingView) (tips hidden : List ℕ) 
           → IsListing (graph_at reading.nodes) order (IsMarked selected) tips numbers
           → ((number : ℕ) → Contains numbers number ↔ IsMarked selected number)
           → IsWalk (named_graph ids reading.nodes) order (names_of ids tips) (names_of ids hidden) names
-      walk_of_list d order numbers names zip listing exact = record {
-        exact = selected_are_named ids reading.nodes is.known is.lengths is.distinct tips hidden (names_of ids tips) (names_of ids hidden)
-            tip_names hidden_names numbers names zip
-            (λ number. ((λ has. (marks number).0 ((exact number).0 has)), (λ chosen. (exact number).1 ((marks number).1 chosen))));
-        once = once_named ids reading.nodes is.known is.lengths is.distinct numbers names zip
-            (listing_is_once (graph_at reading.nodes) order (IsMarked selected) tips numbers listing);
-        children_first = children_first_named ids reading.nodes is.known is.lengths is.distinct numbers names zip
-            (listing_is_children_first (graph_at reading.nodes) order (IsMarked selected) tips numbers listing convex);
-        listing = subst (λ it. IsListing (named_graph ids reading.nodes) order
-            (IsSelected (named_graph ids reading.nodes) (names_of ids tips) (names_of ids hidden)) it names)
-            (positions_of_zip ids d tips (names_of ids tips) tip_names)
-            (subst (λ it. IsListing (named_graph ids reading.nodes) order
-            (IsSelected (named_graph ids reading.nodes) (names_of ids tips) (names_of ids hidden))
-            (map (λ number. get_or ids number d) tips) it)
-            (positions_of_zip ids d numbers names zip)
-            (named_listing (λ number. get_or ids number d) (graph_at reading.nodes) (named_graph ids reading.nodes)
-            (λ number. number < length ids) (IsMarked selected)
-            (IsSelected (named_graph ids reading.nodes) (names_of ids tips) (names_of ids hidden)) (are_names d) order tips numbers
-            is.tips_known listing));
-      }
+      walk_of_list d order numbers names zip listing exact = walk_of_listing (named_graph ids reading.nodes) named_is_functional order
+          (names_of ids tips) (names_of ids hidden) names
+          (selected_are_named ids reading.nodes is.known is.lengths is.distinct tips hidden (names_of ids tips) (names_of ids hidden)
+          tip_names hidden_names numbers names zip
+          (λ number. ((λ has. (marks number).0 ((exact number).0 has)), (λ chosen. (exact number).1 ((marks number).1 chosen)))))
+          (once_named ids reading.nodes is.known is.lengths is.distinct numbers names zip
+          (listing_is_once (graph_at reading.nodes) order (IsMarked selected) tips numbers listing))
+          (children_first_named ids reading.nodes is.known is.lengths is.distinct numbers names zip
+          (listing_is_children_first (graph_at reading.nodes) order (IsMarked selected) tips numbers listing convex))
+          (subst (λ it. IsListing (named_graph ids reading.nodes) order
+          (IsSelected (named_graph ids reading.nodes) (names_of ids tips) (names_of ids hidden)) it names)
+          (positions_of_zip ids d tips (names_of ids tips) tip_names)
+          (subst (λ it. IsListing (named_graph ids reading.nodes) order
+          (IsSelected (named_graph ids reading.nodes) (names_of ids tips) (names_of ids hidden))
+          (map (λ number. get_or ids number d) tips) it)
+          (positions_of_zip ids d numbers names zip)
+          (named_listing (λ number. get_or ids number d) (graph_at reading.nodes) (named_graph ids reading.nodes)
+          (λ number. number < length ids) (IsMarked selected)
+          (IsSelected (named_graph ids reading.nodes) (names_of ids tips) (names_of ids hidden)) (are_names d) order tips numbers
+          is.tips_known listing)))
 
     -- a walk over what was given is one over each graph that has it, if no commit is an ancestor of itself
     pub walk_in_each : (F : ObjectId → Option (NodeView ObjectId)) → IsIncluded (named_graph ids reading.nodes) (graph_of F)

@@ -1,5 +1,6 @@
 -- The order of a walk (git-rev-list, "Commit Ordering"): a commit is listed as soon as each selected child is listed.
--- Of several such commits it is the newest, or the one that was found last.
+-- Of several such commits it is the newest, or the one that was found last. `IsNewestFirst` and `FollowsLines` of Walks
+-- say what follows for the list.
 use Rattle.std.specs.Prelude.{◌≡◌, ◌⊎◌, ◌≤◌, ◌<◌, List, [], ◌∷◌, ◌++◌, Contains}
 use Rattle.std.specs.List.{AllByRecursion}
 use Rattle.gixobj_walks_graph.specs.Graph.{Graph, HasParent, NodeView}

@@ -1,10 +1,12 @@
 mod Begins
 mod Ends
 mod Inserts
+pub mod Lines
 pub mod Listings
 mod Members
-pub mod Names
 mod Named
+pub mod Names
+pub mod NewestFirst
 mod Progress
 mod Ready
 mod States

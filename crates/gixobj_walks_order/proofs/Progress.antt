@@ -169,7 +169,7 @@ module _ {V : Type 0} (G : Graph V) (Selected : V → Type 0) where
 
 -- ---- one commit is listed
 
-weaker_ready : {V : Type 0} (G : Graph V) (Selected : V → Type 0) (listed : List V) (id x : V)
+pub weaker_ready : {V : Type 0} (G : Graph V) (Selected : V → Type 0) (listed : List V) (id x : V)
     → IsReady G Selected listed x → IsReady G Selected (id ∷ listed) x
 weaker_ready G Selected listed id x is = record {
   selected = is.selected;
@@ -182,7 +182,7 @@ module _ {V : Type 0} (G : Graph V) (order : Order) (Selected : V → Type 0) (l
     taken : IsInserted id (all_of lists.others) (all_of old)
     taken = next_inserted old id lists.others lists.next
 
-    waited : Contains (all_of old) id
+    pub waited : Contains (all_of old) id
     waited = inserted_itself id (all_of lists.others) (all_of old) taken
 
     others_waited : (x : V) → Contains (all_of lists.others) x → Contains (all_of old) x
@@ -201,7 +201,7 @@ module _ {V : Type 0} (G : Graph V) (order : Order) (Selected : V → Type 0) (l
     no_child : (x : V) → IsReady G Selected listed x → ¬ HasParent G id x
     no_child x is parent = next_is_unlisted (is.children id next_is_ready.selected parent)
 
-    found : (x : V) → Contains lists.ready x → IsReady G Selected (id ∷ listed) x × HasParent G id x
+    pub found : (x : V) → Contains lists.ready x → IsReady G Selected (id ∷ listed) x × HasParent G id x
     found x has =
         let known = become_ready_is_ready G Selected (id ∷ listed) lists.node.parents lists.ready lists.become_ready x has in
         (known.0, record { node = lists.node; named = lists.named; listed = known.1 })
@@ -209,6 +209,10 @@ module _ {V : Type 0} (G : Graph V) (order : Order) (Selected : V → Type 0) (l
     -- a commit that waits now is new among those that are ready, or waited before
     waits_now : (x : V) → Contains (all_of new) x → Contains lists.ready x ⊎ Contains (all_of lists.others) x
     waits_now x has = all_inserted_cases lists.ready (all_of lists.others) (all_of new) joined x has
+
+    -- a commit that was ready before, and waits now, waited before
+    pub waited_before : (x : V) → IsReady G Selected listed x → Contains (all_of new) x → Contains (all_of old) x
+    waited_before x is has = ⊎_elim (λ now. absurd (no_child x is (found x now).1)) (others_waited x) (waits_now x has)
 
     found_unlisted : (x : V) → Contains lists.ready x → ¬ Contains (id ∷ listed) x
     found_unlisted x has was = ⊎_elim

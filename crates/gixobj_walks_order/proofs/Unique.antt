@@ -8,7 +8,7 @@ use Rattle.gixobj_walks_graph.specs.Listing.{Lists, ListsAll, Waiting}
 use Rattle.gixobj_walks_graph.specs.declared.order.Order.{Order}
 use Rattle.gixobj_walks_graph.specs.declared.order.Order.TheVariants.{Date, Topological}
 
-not_push : {V : Type 0} (xs : List V) (x : V) → xs ++ x ∷ [] ≡ [] → ⊥
+pub not_push : {V : Type 0} (xs : List V) (x : V) → xs ++ x ∷ [] ≡ [] → ⊥
 not_push xs x same =
     let none : length (xs ++ x ∷ []) ≡ 0 = ap length same in
     omega (arith, none, length_push xs x)

@@ -12,7 +12,8 @@ use gixobj_walks_graph::{Node, Order};
 use std::alloc::Global;
 
 /// Lists the selected commits in this order, from the tips on: a commit once each selected child of it is listed
-/// (git-rev-list, "Commit Ordering"). Of several such commits `order` says which one is next.
+/// (git-rev-list, "Commit Ordering"). Of several such commits the newest is next (`--date-order`), or a parent of the
+/// commit before, if one is ready (`--topo-order`): see [`laws`](crate::laws).
 ///
 /// Reads each commit and each mention of a parent twice. Allocates three numbers and a mark for each commit, briefly
 /// one number more, and a key for each commit that waits by its date.
