@@ -134,6 +134,11 @@ pub on_err : {T E P : Type 0} (outcome : Result T E) → P → OnErr outcome P
 on_err (Ok value) holds = tt
 on_err (Err error) holds = holds
 
+-- what follows from what a failure ensures
+pub on_err_then : {T E P Q : Type 0} (outcome : Result T E) → (P → Q) → OnErr outcome P → OnErr outcome Q
+on_err_then (Ok value) then holds = tt
+on_err_then (Err error) then holds = then holds
+
 -- what follows from what a success ensures
 pub on_ok_then : {T E P Q : Type 0} (outcome : Result T E) → (P → Q) → OnOk outcome P → OnOk outcome Q
 on_ok_then (Ok value) then holds = then holds

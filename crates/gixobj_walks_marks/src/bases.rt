@@ -1,5 +1,5 @@
 //! Which commits are selected, and which are candidates for merge bases.
-ghost use Rattle.std.specs.Prelude.{◌≡◌, ◌<◌, ◌↔◌, ◌∷◌, [], ℕ, Contains, IfOk, IsTrue, List, length};
+ghost use Rattle.std.specs.Prelude.{◌≡◌, ◌<◌, ◌↔◌, ◌∷◌, [], ℕ, Contains, IfOk, IsTrue, List, OnErr, length};
 ghost use Rattle.std.specs.List.{AllByRecursion};
 ghost use Rattle.std.specs.List.Sorted.{IsStrictlyIncreasing};
 ghost use Rattle.gixobj_walks_graph.specs.Graph.{HasParent};
@@ -29,6 +29,7 @@ pub fn selected(alloc: Global, left: &[bool], right: &[bool]) -> Result<Vec<bool
     ensures selected { IfOk result (λ chosen. (nodes : Nodes) (tips hidden : List ℕ)
         → HasMarks nodes tips left.now → HasMarks nodes hidden right.now
         → (number : ℕ) → IsMarked chosen.items number ↔ IsSelected (graph_at nodes) tips hidden number) }
+    ensures allocates { OnErr result (0 < length left.now) }
 {
     chosen_marks(alloc, left, right)
 }
@@ -36,8 +37,9 @@ pub fn selected(alloc: Global, left: &[bool], right: &[bool]) -> Result<Vec<bool
 /// Marks the commits that the left side has, and the right side doesn't.
 fn chosen_marks(alloc: Global, left: &[bool], right: &[bool]) -> Result<Vec<bool>, AllocError>
     requires { length right.now ≡ length left.now }
-    ensures { IfOk result (λ chosen. MarksBelow (IsChosen left.now right.now) (length left.now)
-        chosen.items) }
+    ensures marks { IfOk result (λ chosen.
+        MarksBelow (IsChosen left.now right.now) (length left.now) chosen.items) }
+    ensures allocates { OnErr result (0 < length left.now) }
 {
     let mut chosen = Vec::new(alloc);
     for number in 0..left.len() {
@@ -72,6 +74,7 @@ pub fn candidates(
     ensures ascending { IfOk result (λ found. IsStrictlyIncreasing found.items) }
     ensures listed { IfOk result (λ found. ListsBelow (IsCandidateAt nodes.now left.now right.now)
         (length nodes.now) found.items) }
+    ensures allocates { OnErr result (0 < length nodes.now) }
 {
     let shared = shared_marks(alloc, left, right)?;
     let mut blocked = no_marks(alloc, nodes.len())?;
@@ -82,8 +85,9 @@ pub fn candidates(
 /// Marks the commits that both sides have.
 fn shared_marks(alloc: Global, left: &[bool], right: &[bool]) -> Result<Vec<bool>, AllocError>
     requires { length right.now ≡ length left.now }
-    ensures { IfOk result (λ shared. MarksBelow (IsShared left.now right.now) (length left.now)
-        shared.items) }
+    ensures marks { IfOk result (λ shared.
+        MarksBelow (IsShared left.now right.now) (length left.now) shared.items) }
+    ensures allocates { OnErr result (0 < length left.now) }
 {
     let mut shared = Vec::new(alloc);
     for number in 0..left.len() {
@@ -105,8 +109,9 @@ fn is_shared(left: &[bool], right: &[bool], number: usize) -> bool
 /// Lists the commits that the left side has, and the right side doesn't, ascending.
 fn list_chosen(alloc: Global, left: &[bool], right: &[bool]) -> Result<Vec<usize>, AllocError>
     requires { length right.now ≡ length left.now }
-    ensures { IfOk result (λ found. ListsBelow (IsChosen left.now right.now) (length left.now)
-        found.items) }
+    ensures listed { IfOk result (λ found.
+        ListsBelow (IsChosen left.now right.now) (length left.now) found.items) }
+    ensures allocates { OnErr result (0 < length left.now) }
 {
     let mut found = Vec::new(alloc);
     for number in 0..left.len() {

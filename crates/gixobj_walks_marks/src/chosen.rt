@@ -1,6 +1,6 @@
 //! What marks of two sides say of commits.
-ghost use Rattle.std.specs.Prelude.{◌≡◌, ◌<◌, ◌↔◌, ◌++◌, ◌∷◌, [], ℕ, Contains, IfOk, IsTrue, OnOk, if◌then◌else◌};
-ghost use Rattle.std.specs.Prelude.{length};
+ghost use Rattle.std.specs.Prelude.{◌≡◌, ◌<◌, ◌↔◌, ◌++◌, ◌∷◌, [], ℕ, Contains, IfOk, IsTrue, OnErr, OnOk};
+ghost use Rattle.std.specs.Prelude.{if◌then◌else◌, length};
 ghost use Rattle.std.specs.List.{AllByRecursion};
 ghost use Rattle.gixobj_walks_graph.specs.Numbered.{AreParentsKnown, IsMarked};
 ghost use Rattle.gixobj_walks_marks.specs.Chosen.{AreWantedMarked, IsBottomAt, IsChosen, IsWantedAt, ListsBelow};
@@ -126,8 +126,9 @@ pub fn bottoms(
     requires known { AreParentsKnown nodes.now }
     requires left { length left.now ≡ length nodes.now }
     requires right { length right.now ≡ length nodes.now }
-    ensures { IfOk result (λ found. ListsBelow (IsBottomAt nodes.now left.now right.now)
+    ensures listed { IfOk result (λ found. ListsBelow (IsBottomAt nodes.now left.now right.now)
         (length nodes.now) found.items) }
+    ensures allocates { OnErr result (0 < length nodes.now) }
 {
     let mut found = Vec::new(alloc);
     for number in 0..nodes.len() {

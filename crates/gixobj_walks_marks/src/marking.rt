@@ -31,7 +31,7 @@ pub fn mark_reached(
     ensures reached { OnOk result ((number : ℕ) → IsMarked marked.new number
         ↔ (IsMarked marked.old number ⊎ Reaches (graph_at nodes.now) from number)) }
     ensures closed { OnOk result (IsClosed nodes.now marked.new) }
-    ensures memory { OnErr result (¬ IsMarked marked.old from) }
+    ensures allocates { OnErr result (¬ IsMarked marked.old from) }
 {
     if marked[from] {
         return Ok(());

@@ -23,7 +23,7 @@ pub fn mark_start(
     ensures added { OnOk result (AddsStart nodes.now start marked.old.items marked.new.items) }
     ensures closed { OnOk result (IsClosed nodes.now marked.new.items) }
     ensures lengths { OnOk result (length marked.new.items ≡ length marked.old.items) }
-    ensures memory { OnErr result (¬ IsMarked marked.old.items start) }
+    ensures allocates { OnErr result (¬ IsMarked marked.old.items start) }
 {
     mark_reached(alloc, nodes, marked, start)
 }
@@ -44,6 +44,7 @@ pub fn pass_mark(
     ensures marks { OnOk result (PassesMark nodes.now number parents.now
         marked.old.items marked.new.items) }
     ensures lengths { OnOk result (length marked.new.items ≡ length marked.old.items) }
+    ensures allocates { OnErr result (0 < length parents.now) }
 {
     if marked[number] {
         mark_all_reached(alloc, nodes, marked, parents)
@@ -63,7 +64,8 @@ fn mark_all_reached(
     requires lengths { length marked.old ≡ length nodes.now }
     requires starts { AllByRecursion (λ start. start < length nodes.now) starts.now }
     requires closed { IsClosed nodes.now marked.old }
-    ensures { OnOk result (MarksReached nodes.now starts.now marked.old marked.new) }
+    ensures reached { OnOk result (MarksReached nodes.now starts.now marked.old marked.new) }
+    ensures allocates { OnErr result (0 < length starts.now) }
 {
     for start in starts {
         mark_reached(alloc, nodes, marked, *start)?;

@@ -1,6 +1,6 @@
 //! What a walk has read and marked.
-ghost use Rattle.std.specs.Prelude.{◌≡◌, ◌<◌, ◌≤◌, ◌+◌, ◌↔◌, ℕ, None, Some, IfNone, IfOk, IfSome, IsTrue, OnErr, OnOk};
-ghost use Rattle.std.specs.Prelude.{List, [], ◌∷◌, ◌++◌, false, length, replicate, slice_set};
+ghost use Rattle.std.specs.Prelude.{◌≡◌, ◌<◌, ◌≤◌, ◌+◌, ◌↔◌, ◌⊎◌, ℕ, None, Some, IfNone, IfOk, IfSome, IsTrue};
+ghost use Rattle.std.specs.Prelude.{OnErr, OnOk, List, [], ◌∷◌, ◌++◌, false, length, replicate, slice_set};
 ghost use Rattle.std.specs.List.{AllByRecursion};
 ghost use Rattle.std.specs.List.Sorted.{IsPermutation};
 ghost use Rattle.std.specs.BinaryHeap.{heap_items};
@@ -193,7 +193,7 @@ impl Reading {
         ensures left { IfOk result (λ marked. AddsStart self.nodes start self.left marked.left) }
         ensures right { IfOk result (λ marked. marked.right ≡ self.right) }
         ensures next { IfOk result (λ marked. marked.next ≡ self.next) }
-        ensures error { OnErr result (¬ IsMarked self.left start) }
+        ensures allocates { OnErr result (¬ IsMarked self.left start) }
     {
         let Reading {
             nodes,
@@ -225,7 +225,7 @@ impl Reading {
         ensures left { IfOk result (λ marked. marked.left ≡ self.left) }
         ensures right { IfOk result (λ marked. AddsStart self.nodes start self.right marked.right) }
         ensures next { IfOk result (λ marked. marked.next ≡ self.next) }
-        ensures error { OnErr result (¬ IsMarked self.right start) }
+        ensures allocates { OnErr result (¬ IsMarked self.right start) }
     {
         let Reading {
             nodes,
@@ -273,6 +273,7 @@ impl Reading {
         ensures right { IfOk result (λ done.
             KeepsMarks self.nodes self.right done.nodes done.right) }
         ensures reads { IfOk result (λ done. reads done.nodes ≡ reads self.nodes + 1) }
+        ensures allocates { OnErr result ((0 < added) ⊎ (0 < length parents.items)) }
     {
         let Reading {
             mut nodes,
@@ -311,8 +312,10 @@ fn replace_next(
     requires next { next_of (heap_items queue.old) ≡ Some number }
     requires reading { IsReading nodes.old.items left.old.items right.old.items
         (heap_items queue.old) read }
-    ensures { OnOk result (ReplacesNext number added nodes.old.items left.old.items right.old.items
+    ensures replaced { OnOk result (ReplacesNext number added
+        nodes.old.items left.old.items right.old.items
         nodes.new.items left.new.items right.new.items (heap_items queue.new) read) }
+    ensures allocates { OnErr result (0 < added) }
 {
     take_out(queue, number);
     for _ in 0..added {

@@ -1,5 +1,5 @@
 //! Whether a walk has read enough.
-ghost use Rattle.std.specs.Prelude.{◌≡◌, ◌<◌, ◌↔◌, ◌⊎◌, ℕ, Contains, IfOk, IsTrue, List, length};
+ghost use Rattle.std.specs.Prelude.{◌≡◌, ◌<◌, ◌↔◌, ◌⊎◌, ℕ, Contains, IfOk, IsTrue, List, OnErr, length};
 ghost use Rattle.std.specs.List.{AllByRecursion};
 ghost use Rattle.gixobj_walks_graph.specs.Numbered.{AreParentsKnown, IsMarked, graph_at};
 ghost use Rattle.gixobj_walks_marks.specs.Chosen.{HasManyBottoms, ReachesWanted};
@@ -43,6 +43,7 @@ pub fn is_settled_walk(
     ensures unsettled { IfOk result (λ is. (tips hidden : List ℕ) → HasMarks nodes.now tips left.now
         → HasMarks nodes.now hidden right.now → IsSettledWalk (graph_at nodes.now) tips hidden
         → IsTrue is ⊎ HasManyBottoms (graph_at nodes.now) tips hidden) }
+    ensures allocates { OnErr result (0 < length nodes.now) }
 {
     if !are_wanted_marked(nodes, left, right, right) {
         return Ok(false);
@@ -66,8 +67,9 @@ pub fn all_reach_wanted(
     requires left { length left.now ≡ length nodes.now }
     requires right { length right.now ≡ length nodes.now }
     requires starts { AllByRecursion (λ start. start < length nodes.now) starts.now }
-    ensures { IfOk result (λ is. IsTrue is ↔ ((start : ℕ) → Contains starts.now start
+    ensures exact { IfOk result (λ is. IsTrue is ↔ ((start : ℕ) → Contains starts.now start
         → ReachesWanted nodes.now left.now right.now start)) }
+    ensures allocates { OnErr result (0 < length nodes.now) }
 {
     for start in starts {
         if !reaches_wanted(alloc, nodes, left, right, *start)? {
@@ -89,17 +91,23 @@ fn reaches_wanted(
     requires left { length left.now ≡ length nodes.now }
     requires right { length right.now ≡ length nodes.now }
     requires start { start < length nodes.now }
-    ensures { IfOk result (λ is. IsTrue is ↔ ReachesWanted nodes.now left.now right.now start) }
+    ensures exact { IfOk result (λ is. IsTrue is
+        ↔ ReachesWanted nodes.now left.now right.now start) }
+    ensures allocates { OnErr result (0 < length nodes.now) }
 {
     let mut marked = no_marks(alloc, nodes.len())?;
     mark_start(alloc, nodes, &mut marked, start)?;
     Ok(are_wanted_marked(nodes, left, right, &marked))
 }
 
-/// Makes marks of `count` commits, none of them marked.
+/// Makes marks of `count` commits, none of them marked. Allocates nothing for no commit.
 pub fn no_marks(alloc: Global, count: usize) -> Result<Vec<bool>, AllocError>
     ensures length { IfOk result (λ marked. length marked.items ≡ count) }
     ensures none { IfOk result (λ marked. (number : ℕ) → ¬ IsMarked marked.items number) }
+    ensures allocates { OnErr result (0 < count) }
 {
+    if count == 0 {
+        return Ok(Vec::new(alloc));
+    }
     vec![in alloc; false; count]
 }

@@ -1,5 +1,5 @@
 //! Whether a search for merge bases has read enough.
-ghost use Rattle.std.specs.Prelude.{◌≡◌, ◌<◌, ◌↔◌, ◌⊎◌, ◌∷◌, [], ℕ, Contains, IfOk, IsTrue, length};
+ghost use Rattle.std.specs.Prelude.{◌≡◌, ◌<◌, ◌↔◌, ◌⊎◌, ◌∷◌, [], ℕ, Contains, IfOk, IsTrue, OnErr, length};
 ghost use Rattle.std.specs.List.{AllByRecursion};
 ghost use Rattle.gixobj_walks_graph.specs.Graph.{IsRead};
 ghost use Rattle.gixobj_walks_graph.specs.Numbered.{AreParentsKnown, graph_at};
@@ -41,6 +41,7 @@ pub fn is_settled_bases(
     ensures unsettled { IfOk result (λ is. (one other : ℕ) → HasMarks nodes.now (one ∷ []) left.now
         → HasMarks nodes.now (other ∷ []) right.now → IsSettledBases (graph_at nodes.now) one other
         → IsTrue is ⊎ HasManyCandidates (graph_at nodes.now) one other) }
+    ensures allocates { OnErr result (0 < length nodes.now) }
 {
     if !are_wanted_shared(nodes, left, right) {
         return Ok(false);

@@ -9,8 +9,8 @@ pub returns-then-marked-from-clause-reached : goal.returns-then-marked-from-clau
 returns-then-marked-from-clause-reached c = marked_already c.args.nodes.now c.args.marked.now c.args.from
     c.requires.closed (omega (arith, c.requires.from, c.requires.lengths)) c.if-marked-from.true
 
-pub returns-in_err-mark-clause-memory : goal.returns-in_err-mark-clause-memory
-returns-in_err-mark-clause-memory c = on_err c.from_residual.result
+pub returns-in_err-mark-clause-allocates : goal.returns-in_err-mark-clause-allocates
+returns-in_err-mark-clause-allocates c = on_err c.from_residual.result
     (read_unmarked c.args.marked.now c.args.from c.if-marked-from.false)
 
 pub loop-number-init : goal.loop-number-init
@@ -32,8 +32,8 @@ loop-number-preserved c = spreading_goes_on c.args.nodes.now c.args.marked.now c
     c.mark_parents.new.stack.items c.requires.closed c.in-Some.ensures.items c.loop-number.invariant
     c.in_ok-mark_parents.ensures
 
-pub returns-in_err-mark_parents-clause-memory : goal.returns-in_err-mark_parents-clause-memory
-returns-in_err-mark_parents-clause-memory c = on_err c.from_residual-in_err-mark_parents.result
+pub returns-in_err-mark_parents-clause-allocates : goal.returns-in_err-mark_parents-clause-allocates
+returns-in_err-mark_parents-clause-allocates c = on_err c.from_residual-in_err-mark_parents.result
     (read_unmarked c.args.marked.now c.args.from c.if-marked-from.false)
 
 pub returns-clause-reached : goal.returns-clause-reached

@@ -27,7 +27,7 @@ returns-then-index-clause-marks c =
     c.mark_all_reached.new.marked is)
     (subst (λ (xs : List Bool). OnOk c.mark_all_reached.result
     (MarksReached c.args.nodes.now c.args.parents.now xs c.mark_all_reached.new.marked))
-    c.deref_mut.ensures.value c.mark_all_reached.ensures))
+    c.deref_mut.ensures.value c.mark_all_reached.ensures.reached))
 
 pub returns-else-index-clause-marks : goal.returns-else-index-clause-marks
 returns-else-index-clause-marks c =

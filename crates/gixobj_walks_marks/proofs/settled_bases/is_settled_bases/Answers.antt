@@ -61,7 +61,7 @@ returns-clause-settled c =
     c.requires.left c.requires.right shared.0 shared.1 c.in_ok-found.ensures.listed read decides)
     (subst (λ (xs : List ℕ). IfOk c.all_reach_wanted.result (λ is. IsTrue is ↔ ((start : ℕ) → Contains xs start
     → ReachesWanted c.args.nodes.now c.args.left.now c.args.right.now start)))
-    c.deref-2.ensures.value c.all_reach_wanted.ensures)
+    c.deref-2.ensures.value c.all_reach_wanted.ensures.exact)
 
 pub returns-clause-unsettled : goal.returns-clause-unsettled
 returns-clause-unsettled c = if_ok_then c.all_reach_wanted.result
@@ -69,4 +69,4 @@ returns-clause-unsettled c = if_ok_then c.all_reach_wanted.result
     c.requires.left c.requires.right c.in_ok-found.ensures.listed decides)
     (subst (λ (xs : List ℕ). IfOk c.all_reach_wanted.result (λ is. IsTrue is ↔ ((start : ℕ) → Contains xs start
     → ReachesWanted c.args.nodes.now c.args.left.now c.args.right.now start)))
-    c.deref-2.ensures.value c.all_reach_wanted.ensures)
+    c.deref-2.ensures.value c.all_reach_wanted.ensures.exact)

@@ -15,7 +15,7 @@ pass_mark-requires-clause-number c =
     let unread : IsUnread c.replace_next.new.nodes.items c.args.number = replaced_unread
     c.args.number c.args.added c.self.inside.nodes.items c.self.inside.left.items c.self.inside.right.items
     c.replace_next.new.nodes.items c.replace_next.new.left.items c.replace_next.new.right.items
-    (heap_items c.replace_next.new.queue) c.self.inside.read c.in_ok-replace_next.ensures in
+    (heap_items c.replace_next.new.queue) c.self.inside.read c.in_ok-replace_next.ensures.replaced in
     subst (λ (xs : List (Option (NodeView ℕ))). c.args.number < length xs) (sym c.deref.ensures.value)
     (slice_get_within c.replace_next.new.nodes.items c.args.number None unread)
 
@@ -26,7 +26,7 @@ pass_mark-requires-clause-parents c =
     (replaced_parents
     c.args.number c.args.added c.self.inside.nodes.items c.self.inside.left.items c.self.inside.right.items
     c.replace_next.new.nodes.items c.replace_next.new.left.items c.replace_next.new.right.items
-    (heap_items c.replace_next.new.queue) c.self.inside.read c.args.parents.items c.in_ok-replace_next.ensures
+    (heap_items c.replace_next.new.queue) c.self.inside.read c.args.parents.items c.in_ok-replace_next.ensures.replaced
     (subst (λ (w : ReadingView). AllByRecursion (λ parent. parent < length w.nodes + c.args.added) c.args.parents.items)
     (sym c.self.view_is) c.requires.parents))
 
@@ -35,7 +35,7 @@ pass_mark-requires-2-clause-number c =
     let unread : IsUnread c.replace_next.new.nodes.items c.args.number = replaced_unread
     c.args.number c.args.added c.self.inside.nodes.items c.self.inside.left.items c.self.inside.right.items
     c.replace_next.new.nodes.items c.replace_next.new.left.items c.replace_next.new.right.items
-    (heap_items c.replace_next.new.queue) c.self.inside.read c.in_ok-replace_next.ensures in
+    (heap_items c.replace_next.new.queue) c.self.inside.read c.in_ok-replace_next.ensures.replaced in
     subst (λ (xs : List (Option (NodeView ℕ))). c.args.number < length xs) (sym c.deref-3.ensures.value)
     (slice_get_within c.replace_next.new.nodes.items c.args.number None unread)
 
@@ -46,7 +46,7 @@ pass_mark-requires-2-clause-parents c =
     (replaced_parents
     c.args.number c.args.added c.self.inside.nodes.items c.self.inside.left.items c.self.inside.right.items
     c.replace_next.new.nodes.items c.replace_next.new.left.items c.replace_next.new.right.items
-    (heap_items c.replace_next.new.queue) c.self.inside.read c.args.parents.items c.in_ok-replace_next.ensures
+    (heap_items c.replace_next.new.queue) c.self.inside.read c.args.parents.items c.in_ok-replace_next.ensures.replaced
     (subst (λ (w : ReadingView). AllByRecursion (λ parent. parent < length w.nodes + c.args.added) c.args.parents.items)
     (sym c.self.view_is) c.requires.parents))
 
@@ -55,7 +55,7 @@ index_mut-requires c =
     let unread : IsUnread c.replace_next.new.nodes.items c.args.number = replaced_unread
     c.args.number c.args.added c.self.inside.nodes.items c.self.inside.left.items c.self.inside.right.items
     c.replace_next.new.nodes.items c.replace_next.new.left.items c.replace_next.new.right.items
-    (heap_items c.replace_next.new.queue) c.self.inside.read c.in_ok-replace_next.ensures in
+    (heap_items c.replace_next.new.queue) c.self.inside.read c.in_ok-replace_next.ensures.replaced in
     let inside = slice_get_within c.replace_next.new.nodes.items c.args.number None unread in
     omega (arith, inside, c.replace_next.new.nodes.ok.0)
 
@@ -64,16 +64,16 @@ invariant_of-result c =
     let node : NodeView ℕ = record { parents = c.args.parents.items; seconds = c.args.seconds } in
     read_is_reading c.replace_next.new.nodes.items c.replace_next.new.left.items c.replace_next.new.right.items
     c.pass_mark.new.marked.items c.pass_mark-2.new.marked.items
-    (c.in_ok-replace_next.ensures.unread ∷ heap_items c.replace_next.new.queue)
-    (heap_items c.replace_next.new.queue) c.self.inside.read c.args.number node c.in_ok-replace_next.ensures.reading
+    (c.in_ok-replace_next.ensures.replaced.unread ∷ heap_items c.replace_next.new.queue)
+    (heap_items c.replace_next.new.queue) c.self.inside.read c.args.number node c.in_ok-replace_next.ensures.replaced.reading
     (taken_at_last
     c.args.number c.args.added c.self.inside.nodes.items c.self.inside.left.items c.self.inside.right.items
     c.replace_next.new.nodes.items c.replace_next.new.left.items c.replace_next.new.right.items
-    (heap_items c.replace_next.new.queue) c.self.inside.read c.in_ok-replace_next.ensures)
+    (heap_items c.replace_next.new.queue) c.self.inside.read c.in_ok-replace_next.ensures.replaced)
     (replaced_parents
     c.args.number c.args.added c.self.inside.nodes.items c.self.inside.left.items c.self.inside.right.items
     c.replace_next.new.nodes.items c.replace_next.new.left.items c.replace_next.new.right.items
-    (heap_items c.replace_next.new.queue) c.self.inside.read c.args.parents.items c.in_ok-replace_next.ensures
+    (heap_items c.replace_next.new.queue) c.self.inside.read c.args.parents.items c.in_ok-replace_next.ensures.replaced
     (subst (λ (w : ReadingView). AllByRecursion (λ parent. parent < length w.nodes + c.args.added) c.args.parents.items)
     (sym c.self.view_is) c.requires.parents))
     (passes_at c.replace_next.new.nodes.items c.deref.result.now c.args.number c.args.parents.items c.deref-2.result.now
@@ -87,7 +87,7 @@ invariant_of-result c =
 pub returns-clause-left : goal.returns-clause-left
 returns-clause-left c =
     let node : NodeView ℕ = record { parents = c.args.parents.items; seconds = c.args.seconds } in
-    let is = c.in_ok-replace_next.ensures in
+    let is = c.in_ok-replace_next.ensures.replaced in
     let unread : IsUnread c.replace_next.new.nodes.items c.args.number = replaced_unread
     c.args.number c.args.added c.self.inside.nodes.items c.self.inside.left.items c.self.inside.right.items
     c.replace_next.new.nodes.items c.replace_next.new.left.items c.replace_next.new.right.items
@@ -104,7 +104,7 @@ returns-clause-left c =
 pub returns-clause-right : goal.returns-clause-right
 returns-clause-right c =
     let node : NodeView ℕ = record { parents = c.args.parents.items; seconds = c.args.seconds } in
-    let is = c.in_ok-replace_next.ensures in
+    let is = c.in_ok-replace_next.ensures.replaced in
     let unread : IsUnread c.replace_next.new.nodes.items c.args.number = replaced_unread
     c.args.number c.args.added c.self.inside.nodes.items c.self.inside.left.items c.self.inside.right.items
     c.replace_next.new.nodes.items c.replace_next.new.left.items c.replace_next.new.right.items
@@ -121,7 +121,7 @@ returns-clause-right c =
 pub returns-clause-reads : goal.returns-clause-reads
 returns-clause-reads c =
     let node : NodeView ℕ = record { parents = c.args.parents.items; seconds = c.args.seconds } in
-    let is = c.in_ok-replace_next.ensures in
+    let is = c.in_ok-replace_next.ensures.replaced in
     let unread : IsUnread c.replace_next.new.nodes.items c.args.number = replaced_unread
     c.args.number c.args.added c.self.inside.nodes.items c.self.inside.left.items c.self.inside.right.items
     c.replace_next.new.nodes.items c.replace_next.new.left.items c.replace_next.new.right.items
@@ -134,4 +134,4 @@ returns-clause-nodes c =
     let node : NodeView ℕ = record { parents = c.args.parents.items; seconds = c.args.seconds } in
     subst (λ (w : ReadingView). set c.replace_next.new.nodes.items c.args.number (Some node)
     ≡ set (w.nodes ++ replicate c.args.added None) c.args.number (Some node))
-    c.self.view_is (ap (λ it. set it c.args.number (Some node)) c.in_ok-replace_next.ensures.nodes_are)
+    c.self.view_is (ap (λ it. set it c.args.number (Some node)) c.in_ok-replace_next.ensures.replaced.nodes_are)
