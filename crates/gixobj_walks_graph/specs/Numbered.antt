@@ -1,5 +1,5 @@
 -- Graphs whose commits are numbered: the commit of a number is at this position of a list, or is not read.
-use Rattle.std.specs.Prelude.{◌≡◌, ◌<◌, ℕ, Bool, true, List, Option, Some, length, slice_get}
+use Rattle.std.specs.Prelude.{◌≡◌, ◌<◌, ℕ, Bool, true, List, [], Option, Some, None, length, slice_get}
 use Rattle.std.specs.List.{AllByRecursion}
 use Rattle.gixobj_walks_graph.specs.Graph.{Graph, NodeView}
 
@@ -10,6 +10,16 @@ Nodes = List (Option (NodeView ℕ))
 -- the graph of the commits that are read
 abbrev pub graph_at : Nodes → Graph ℕ
 graph_at nodes number node = slice_get nodes number ≡ Some (Some node)
+
+-- the parents of a commit that is read, and none of another
+abbrev pub parents_in : Option (Option (NodeView ℕ)) → List ℕ
+parents_in None = []
+parents_in (Some None) = []
+parents_in (Some (Some node)) = node.parents
+
+-- the parents of a commit, none if it isn't read
+abbrev pub parents_at : Nodes → ℕ → List ℕ
+parents_at nodes number = parents_in (slice_get nodes number)
 
 -- the number is marked
 abbrev pub IsMarked : List Bool → ℕ → Type 0

@@ -8,13 +8,12 @@ use Rattle.std.proofs.lemmas.List.Elements.{Contains-append_cases, Contains-appe
 use Rattle.std.proofs.lemmas.Option.{same_Some, slice_get_within}
 use Rattle.gixobj_walks_graph.specs.Bases.{IsCommon}
 use Rattle.gixobj_walks_graph.specs.Graph.{HasParent, IsRead}
-use Rattle.gixobj_walks_graph.specs.Numbered.{IsMarked, Nodes, graph_at}
+use Rattle.gixobj_walks_graph.specs.Numbered.{IsMarked, Nodes, graph_at, parents_at}
 use Rattle.gixobj_walks_graph.specs.Walks.{IsSelected}
 use Rattle.gixobj_walks_marks.specs.Chosen.{AddsMarks, AreWantedMarked, HasManyCandidates, HasMarkedChild, IsCandidateAt, IsChosen, IsShared, IsWantedAt}
 use Rattle.gixobj_walks_marks.specs.Chosen.{ListsBelow, MarksBelow, ReachesWanted}
 use Rattle.gixobj_walks_marks.specs.Marks.{HasMarks}
 use Rattle.gixobj_walks_marks.specs.Settled.{IsCandidate, IsSettledBases, IsWantedBase}
-use Rattle.gixobj_walks_marks.specs.Spreading.{parents_at}
 use Rattle.gixobj_walks_marks.proofs.Bottoms.{selected_by_marks}
 use Rattle.gixobj_walks_marks.proofs.Marked.{marked_within, one_contained, one_contains, same_or_other, set_cases, set_keeps, slice_get-set_same}
 use Rattle.gixobj_walks_marks.proofs.Queued.{slice_get-push_other, slice_get-pushed}

@@ -5,8 +5,8 @@ use Rattle.std.specs.List.{slice_get}
 use Rattle.std.proofs.Math.ListN.{set}
 use Rattle.std.proofs.lemmas.List.Elements.{Contains-append_cases, Contains-append_left, Contains-append_right, Contains-push, Contains-push_cases}
 use Rattle.gixobj_walks_graph.specs.Graph.{HasParent, NodeView, LeadsTo, Reaches}
-use Rattle.gixobj_walks_graph.specs.Numbered.{IsClosed, IsMarked, Nodes, graph_at}
-use Rattle.gixobj_walks_marks.specs.Spreading.{Spreads, parents_at, parents_of}
+use Rattle.gixobj_walks_graph.specs.Numbered.{IsClosed, IsMarked, Nodes, graph_at, parents_at, parents_in}
+use Rattle.gixobj_walks_marks.specs.Spreading.{Spreads}
 use Rattle.gixobj_walks_marks.proofs.Marked.{each_contained, from_each_contained, marked_within, nothing_contained, one_contained, one_contains, read_marked}
 use Rattle.gixobj_walks_marks.proofs.Marked.{set_cases, set_keeps, slice_get-set_same, unmarked_set}
 use Rattle.gixobj_walks_marks.proofs.Paths.{reaches_itself, reaches_parent, reaches_transitively}
@@ -141,10 +141,10 @@ spreading_begins nodes old marked from stack closed step = record {
 -- a commit with a parent, by numbers
 pub parents_at_named : (nodes : Nodes) (number : ℕ) (node : NodeView ℕ) → graph_at nodes number node
     → parents_at nodes number ≡ node.parents
-parents_at_named nodes number node named = ap parents_of named
+parents_at_named nodes number node named = ap parents_in named
 
 -- a listed parent is the parent of a commit that is read
-parent_of_read : (entry : Option (Option (NodeView ℕ))) (parent : ℕ) → Contains (parents_of entry) parent
+parent_of_read : (entry : Option (Option (NodeView ℕ))) (parent : ℕ) → Contains (parents_in entry) parent
     → (node : NodeView ℕ) × (entry ≡ Some (Some node)) × Contains node.parents parent
 parent_of_read (Some (Some node)) parent has = (node, refl, has)
 parent_of_read (Some None) parent has = absurd (nothing_contained parent has)

@@ -1,17 +1,7 @@
 -- How marks go from a commit to what it reaches: a stack has the marked commits whose parents are still to be marked.
-use Rattle.std.specs.Prelude.{◌≡◌, ◌⊎◌, ◌↔◌, ◌+◌, ℕ, Bool, not, List, [], Option, Some, Contains, length, slice_get}
-use Rattle.std.specs.Prelude.{count_by}
-use Rattle.gixobj_walks_graph.specs.Graph.{IsReachedFrom, NodeView}
+use Rattle.std.specs.Prelude.{◌≡◌, ◌⊎◌, ◌↔◌, ◌+◌, ℕ, Bool, not, List, Contains, count_by, length}
+use Rattle.gixobj_walks_graph.specs.Graph.{IsReachedFrom}
 use Rattle.gixobj_walks_graph.specs.Numbered.{IsMarked, Nodes, graph_at}
-
--- the parents of a commit that is read, and none of another
-abbrev pub parents_of : Option (Option (NodeView ℕ)) → List ℕ
-parents_of (Some (Some node)) = node.parents
-parents_of _ = []
-
--- the parents of the commit with this number, if it is read
-abbrev pub parents_at : Nodes → ℕ → List ℕ
-parents_at nodes number = parents_of (slice_get nodes number)
 
 -- how many commits are not marked
 abbrev pub unmarked : List Bool → ℕ

@@ -3,13 +3,12 @@ ghost use Rattle.std.specs.Prelude.{◌≡◌, ◌<◌, ◌↔◌, ◌∷◌, []
 ghost use Rattle.std.specs.List.{AllByRecursion};
 ghost use Rattle.std.specs.List.Sorted.{IsStrictlyIncreasing};
 ghost use Rattle.gixobj_walks_graph.specs.Graph.{HasParent};
-ghost use Rattle.gixobj_walks_graph.specs.Numbered.{AreParentsKnown, IsMarked, Nodes, graph_at};
+ghost use Rattle.gixobj_walks_graph.specs.Numbered.{AreParentsKnown, IsMarked, Nodes, graph_at, parents_at};
 ghost use Rattle.gixobj_walks_graph.specs.Walks.{IsSelected};
 ghost use Rattle.gixobj_walks_marks.specs.Chosen.{AddsMarks, HasMarkedChild, IsCandidateAt};
 ghost use Rattle.gixobj_walks_marks.specs.Chosen.{IsChosen, IsShared, ListsBelow, MarksBelow};
 ghost use Rattle.gixobj_walks_marks.specs.Marks.{HasMarks};
 ghost use Rattle.gixobj_walks_marks.specs.Settled.{IsCandidate};
-ghost use Rattle.gixobj_walks_marks.specs.Spreading.{parents_at};
 
 use crate::chosen::{is_chosen, push_if};
 use crate::settled::no_marks;

@@ -2,8 +2,8 @@
 ghost use Rattle.std.specs.Prelude.{◌≡◌, ◌<◌, ◌↔◌, ◌⊎◌, ℕ, OnErr, OnOk, length, ◌∷◌, []};
 ghost use Rattle.std.specs.List.{AllByRecursion};
 ghost use Rattle.gixobj_walks_graph.specs.Graph.{Reaches};
-ghost use Rattle.gixobj_walks_graph.specs.Numbered.{AreParentsKnown, IsClosed, IsMarked, graph_at};
-ghost use Rattle.gixobj_walks_marks.specs.Spreading.{Spreads, parents_at};
+ghost use Rattle.gixobj_walks_graph.specs.Numbered.{AreParentsKnown, IsClosed, IsMarked, graph_at, parents_at};
+ghost use Rattle.gixobj_walks_marks.specs.Spreading.{Spreads};
 
 use gixobj_walks_graph::Node;
 use std::alloc::{AllocError, Global};

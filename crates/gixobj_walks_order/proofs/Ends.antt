@@ -11,9 +11,9 @@ use Rattle.gixobj_walks_graph.proofs.Cycles.{cycle_from_successors}
 use Rattle.gixobj_walks_graph.proofs.Paths.{ancestor_from_parent, ancestor_of_ancestor}
 use Rattle.gixobj_walks_graph.specs.Graph.{AreOnce, Graph, HasAncestor}
 use Rattle.gixobj_walks_graph.specs.Listing.{AreFirstReady, IsListing, Lists, ListsAll, Waiting}
-use Rattle.gixobj_walks_graph.specs.Numbered.{IsMarked, Nodes, graph_at}
+use Rattle.gixobj_walks_graph.specs.Numbered.{IsMarked, Nodes, graph_at, parents_at}
 use Rattle.gixobj_walks_graph.specs.declared.order.Order.{Order}
-use Rattle.gixobj_walks_order.specs.Counts.{is_marked, is_named, parents_at, pending_children}
+use Rattle.gixobj_walks_order.specs.Counts.{is_marked, is_named, pending_children}
 use Rattle.gixobj_walks_order.specs.Listed.{AreMarkedRead, IsCycle, graph_within}
 use Rattle.gixobj_walks_order.specs.Progress.{IsFirst, IsStateAt, all_of}
 use Rattle.gixobj_walks_order.specs.Queues.{numbers_of, waiting_of}

@@ -8,8 +8,8 @@ use Rattle.std.proofs.lemmas.List.{get_or-set_other, get_or-set_same}
 use Rattle.std.proofs.lemmas.Option.{get_or_from_slice_get, slice_get_within}
 use Rattle.gixobj_walks_graph.specs.Graph.{HasParent, NodeView}
 use Rattle.gixobj_walks_graph.specs.Listing.{AreFirstReady, BecomeReady, IsReady}
-use Rattle.gixobj_walks_graph.specs.Numbered.{IsMarked, Nodes, graph_at}
-use Rattle.gixobj_walks_order.specs.Counts.{IsPending, first_tips, freed_parents, is_marked, is_named, parents_at, parents_in, pending_children}
+use Rattle.gixobj_walks_graph.specs.Numbered.{IsMarked, Nodes, graph_at, parents_at, parents_in}
+use Rattle.gixobj_walks_order.specs.Counts.{IsPending, first_tips, freed_parents, is_marked, is_named, pending_children}
 use Rattle.gixobj_walks_order.proofs.Members.{contains_cases, contains_here, contains_later, contains_nothing}
 
 -- ---- tests and facts

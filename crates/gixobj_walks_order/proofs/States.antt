@@ -8,9 +8,9 @@ use Rattle.std.proofs.lemmas.List.Elements.{All-from_recursion}
 use Rattle.std.proofs.lemmas.Option.{slice_get_within, same_Some}
 use Rattle.gixobj_walks_graph.specs.Graph.{IsFunctional, IsRead}
 use Rattle.gixobj_walks_graph.specs.Listing.{BecomeReady, IsNext, IsReady, Join, Lists}
-use Rattle.gixobj_walks_graph.specs.Numbered.{AreParentsKnown, IsMarked, Nodes, graph_at}
+use Rattle.gixobj_walks_graph.specs.Numbered.{AreParentsKnown, IsMarked, Nodes, graph_at, parents_at}
 use Rattle.gixobj_walks_graph.specs.declared.order.Order.{Order}
-use Rattle.gixobj_walks_order.specs.Counts.{AreBelow, AreRead, IsPending, freed_parents, is_marked, is_named, parents_at, pending_children}
+use Rattle.gixobj_walks_order.specs.Counts.{AreBelow, AreRead, IsPending, freed_parents, is_marked, is_named, pending_children}
 use Rattle.gixobj_walks_order.specs.Listed.{AreMarkedRead}
 use Rattle.gixobj_walks_order.specs.Progress.{IsComplete, IsProgress, IsStateAt, all_of}
 use Rattle.gixobj_walks_order.specs.Queues.{AreKeys, IsKey, waiting_of}

@@ -4,19 +4,9 @@ use Rattle.std.specs.Prelude.{◌∷◌, Option, Some, None, if◌then◌else◌
 use Rattle.std.specs.Prelude.{slice_index_or}
 use Rattle.std.specs.List.{AllByRecursion, list_any}
 use Rattle.gixobj_walks_graph.specs.Graph.{IsRead, NodeView}
-use Rattle.gixobj_walks_graph.specs.Numbered.{IsMarked, Nodes, graph_at}
+use Rattle.gixobj_walks_graph.specs.Numbered.{IsMarked, Nodes, graph_at, parents_at}
 
 -- ---- what is known of a commit by its number
-
--- the parents of a commit that is read, and none of another
-abbrev pub parents_in : Option (Option (NodeView ℕ)) → List ℕ
-parents_in None = []
-parents_in (Some None) = []
-parents_in (Some (Some node)) = node.parents
-
--- the parents of a commit, none if it isn't read
-abbrev pub parents_at : Nodes → ℕ → List ℕ
-parents_at nodes number = parents_in (slice_get nodes number)
 
 -- the seconds of a commit that is read, and 0 of another
 abbrev pub seconds_in : Option (Option (NodeView ℕ)) → ℕ

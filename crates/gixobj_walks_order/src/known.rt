@@ -1,7 +1,7 @@
 //! What is known of a commit by its number.
 ghost use Rattle.std.specs.Prelude.{◌≡◌, ◌<◌, ◌↔◌, ℕ, IsTrue, length};
-ghost use Rattle.gixobj_walks_graph.specs.Numbered.{IsMarked};
-ghost use Rattle.gixobj_walks_order.specs.Counts.{parents_at, seconds_at};
+ghost use Rattle.gixobj_walks_graph.specs.Numbered.{IsMarked, parents_at};
+ghost use Rattle.gixobj_walks_order.specs.Counts.{seconds_at};
 
 use gixobj_walks_graph::Node;
 

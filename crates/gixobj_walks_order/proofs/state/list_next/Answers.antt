@@ -2,10 +2,10 @@ use Rattle.std.proofs.Common.{◌≡◌, ◌∙◌, ◌+◌, ◌<◌, ℕ, List,
 use Rattle.std.specs.Vec.{with_items}
 use Rattle.std.proofs.lemmas.List.{length_push, with_items_is}
 use Rattle.gixobj_walks_graph.specs.Listing.{Join}
-use Rattle.gixobj_walks_graph.specs.Numbered.{graph_at}
+use Rattle.gixobj_walks_graph.specs.Numbered.{graph_at, parents_at}
 use Rattle.gixobj_walks_order.specs.Progress.{IsStateAt}
 use Rattle.gixobj_walks_order.specs.Queues.{AreKeys, waiting_of}
-use Rattle.gixobj_walks_order.specs.Counts.{AreBelow, AreRead, freed_parents, is_named, parents_at}
+use Rattle.gixobj_walks_order.specs.Counts.{AreBelow, AreRead, freed_parents, is_named}
 use Rattle.gixobj_walks_order.proofs.States.{freed_are_read, keys_left, lists_number, next_is_counted, next_within, parents_below, state_more}
 use Rattle.gixobj_walks_order.proofs.state.list_next.Goals as goal
 
