@@ -8,7 +8,7 @@ use Rattle.gixobj_walks_graph.specs.Listing.{AreFirstReady, AreInsertedByDate}
 use Rattle.gixobj_walks_graph.specs.Numbered.{IsMarked, Nodes, graph_at}
 use Rattle.gixobj_walks_order.specs.Counts.{AreBelow, AreRead, IsPending, first_tips, pending_children}
 use Rattle.gixobj_walks_order.specs.Listed.{AreMarkedRead, AreReached}
-use Rattle.gixobj_walks_order.specs.Progress.{IsComplete, IsProgress, IsStateAt, all_of}
+use Rattle.gixobj_walks_order.specs.Progress.{HasEachReady, IsProgress, IsStateAt, all_of}
 use Rattle.gixobj_walks_order.specs.Queues.{AreKeys, numbers_of, waiting_of}
 use Rattle.gixobj_walks_order.specs.declared.queue.Queue.{Queue}
 use Rattle.gixobj_walks_order.proofs.Members.{all_inserted_length, contains_nothing, each_from_contained}
@@ -65,7 +65,7 @@ module _ (nodes : Nodes) (selected : List Bool) (tips counts ready : List ℕ) (
               progress = subst (λ l. IsProgress (graph_at nodes) (IsMarked selected) [] (record { dated = numbers_of queue.dated; found = l }))
                   (sym found)
                   (progress_first (graph_at nodes) (IsMarked selected) tips ready (numbers_of queue.dated) first inserted);
-              complete = subst (λ l. IsComplete (graph_at nodes) (IsMarked selected) [] (record { dated = numbers_of queue.dated; found = l }))
+              complete = subst (λ l. HasEachReady (graph_at nodes) (IsMarked selected) [] (record { dated = numbers_of queue.dated; found = l }))
                   (sym found)
                   (complete_first (graph_at nodes) (IsMarked selected) tips ready (numbers_of queue.dated) first inserted cases_eq
                   (λ x chosen. ⊎_elim (λ tip. inl tip) (λ child. inr (child.child, child.chosen, child.parent)) (reached x chosen)));

@@ -4,7 +4,7 @@ use Rattle.gixobj_walks_graph.specs.Graph.{AreOnce, Graph, HasParent, IsFunction
 use Rattle.gixobj_walks_graph.specs.Listing.{AreFirstReady, AreInsertedByDate, BecomeReady, IsInsertedByDate, IsNext, IsReady, Join, Lists, Waiting}
 use Rattle.gixobj_walks_graph.specs.declared.order.Order.{Order}
 use Rattle.gixobj_walks_graph.specs.declared.order.Order.TheVariants.{Date, Topological}
-use Rattle.gixobj_walks_order.specs.Progress.{IsComplete, IsProgress, all_of}
+use Rattle.gixobj_walks_order.specs.Progress.{HasEachReady, IsProgress, all_of}
 use Rattle.gixobj_walks_order.proofs.Members.{AreInserted, IsInserted, absent_removed, all_inserted_cases, all_inserted_each, all_inserted_keeps}
 use Rattle.gixobj_walks_order.proofs.Members.{all_inserted_once, contains_cases, contains_decided, contains_here, contains_later, contains_nothing}
 use Rattle.gixobj_walks_order.proofs.Members.{each_from_contained, inserted_cases, inserted_itself, inserted_keeps, once_removed}
@@ -250,8 +250,8 @@ module _ {V : Type 0} (G : Graph V) (order : Order) (Selected : V → Type 0) (l
     }
 
     -- a commit that wasn't ready has the listed one as a child
-    pub complete_more : IsFunctional G → ((x y : V) → (x ≡ y) ⊎ (x ≢ y)) → IsComplete G Selected listed old
-        → IsComplete G Selected (id ∷ listed) new
+    pub complete_more : IsFunctional G → ((x y : V) → (x ≡ y) ⊎ (x ≢ y)) → HasEachReady G Selected listed old
+        → HasEachReady G Selected (id ∷ listed) new
     complete_more functional decide complete x is unlisted = ⊎_elim
         (λ has. all_inserted_each lists.ready (all_of lists.others) (all_of new) joined x
         (become_ready_complete G Selected (id ∷ listed) decide lists.node.parents lists.ready lists.become_ready x has is))
@@ -293,7 +293,7 @@ module _ {V : Type 0} (G : Graph V) (Selected : V → Type 0) (tips ready dated 
 
   pub complete_first : ((x y : V) → (x ≡ y) ⊎ (x ≢ y))
       → ((x : V) → Selected x → Contains tips x ⊎ ((child : V) × Selected child × HasParent G child x))
-      → IsComplete G Selected [] (record { dated = dated; found = [] })
+      → HasEachReady G Selected [] (record { dated = dated; found = [] })
   complete_first decide reached x is unlisted = ⊎_elim
       (λ tip. ⊎_elim
       (λ has. all_inserted_each ready [] (dated ++ []) begun x has)

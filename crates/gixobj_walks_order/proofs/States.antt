@@ -12,7 +12,7 @@ use Rattle.gixobj_walks_graph.specs.Numbered.{AreParentsKnown, IsMarked, Nodes, 
 use Rattle.gixobj_walks_graph.specs.declared.order.Order.{Order}
 use Rattle.gixobj_walks_order.specs.Counts.{AreBelow, AreRead, IsPending, freed_parents, is_marked, is_named, pending_children}
 use Rattle.gixobj_walks_order.specs.Listed.{AreMarkedRead}
-use Rattle.gixobj_walks_order.specs.Progress.{IsComplete, IsProgress, IsStateAt, all_of}
+use Rattle.gixobj_walks_order.specs.Progress.{HasEachReady, IsProgress, IsStateAt, all_of}
 use Rattle.gixobj_walks_order.specs.Queues.{AreKeys, IsKey, waiting_of}
 use Rattle.gixobj_walks_order.specs.declared.queue.Key.{Key}
 use Rattle.gixobj_walks_order.specs.declared.queue.Queue.{Queue}
@@ -196,7 +196,7 @@ module _ (nodes : Nodes) (selected : List Bool) (order : Order) (counts stamps :
               progress = subst (λ l. IsProgress (graph_at nodes) (IsMarked selected) l (waiting_of new)) (sym reversed)
                   (progress_more (graph_at nodes) order (IsMarked selected) (reverse ids) (waiting_of queue) number (waiting_of new)
                   lists_number state.progress);
-              complete = subst (λ l. IsComplete (graph_at nodes) (IsMarked selected) l (waiting_of new)) (sym reversed)
+              complete = subst (λ l. HasEachReady (graph_at nodes) (IsMarked selected) l (waiting_of new)) (sym reversed)
                   (complete_more (graph_at nodes) order (IsMarked selected) (reverse ids) (waiting_of queue) number (waiting_of new)
                   lists_number state.progress (graph_at_is_functional nodes) cases_eq state.complete);
             }

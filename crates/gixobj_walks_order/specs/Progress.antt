@@ -24,8 +24,8 @@ pub record IsProgress {V : Type 0} (G : Graph V) (Selected : V → Type 0) (list
   pub listed_once : AreOnce listed
 
 -- each ready commit is listed or waits
-abbrev pub IsComplete : {V : Type 0} → Graph V → (V → Type 0) → List V → Waiting V → Type 0
-IsComplete {V} G Selected listed waiting = (id : V) → IsReady G Selected listed id → (¬ Contains listed id)
+abbrev pub HasEachReady : {V : Type 0} → Graph V → (V → Type 0) → List V → Waiting V → Type 0
+HasEachReady {V} G Selected listed waiting = (id : V) → IsReady G Selected listed id → (¬ Contains listed id)
     → Contains (all_of waiting) id
 
 -- the state of a list that is being made
@@ -40,7 +40,7 @@ pub record IsStateAt (nodes : Nodes) (selected : List Bool) (counts stamps : Lis
   pub keys : AreKeys nodes (length ids + length (all_of (waiting_of queue))) queue.dated
   pub is_pending : IsPending selected pending (reverse ids)
   pub progress : IsProgress (graph_at nodes) (IsMarked selected) (reverse ids) (waiting_of queue)
-  pub complete : IsComplete (graph_at nodes) (IsMarked selected) (reverse ids) (waiting_of queue)
+  pub complete : HasEachReady (graph_at nodes) (IsMarked selected) (reverse ids) (waiting_of queue)
 
 -- the invariant of a list that is being made
 abbrev pub IsState : Nodes → List Bool → State → Type 0
