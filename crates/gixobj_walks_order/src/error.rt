@@ -2,11 +2,13 @@
 use std::alloc::AllocError;
 
 /// Why no list of the selected commits was made.
-#[derive(Debug, Drop, PartialEq, Eq)]
+#[derive(Debug, Drop, PartialEq, Eq, thiserror::Error)]
 pub enum ListError {
     /// A selected commit is an ancestor of itself, so that no order has each commit before its parents.
+    #[error("a commit is an ancestor of itself")]
     Cycle,
     /// Memory ran out.
+    #[error("out of memory")]
     OutOfMemory,
 }
 
