@@ -42,7 +42,8 @@ pub(crate) fn count_children(
     requires lengths { length pending.now ≡ length nodes.now }
     ensures len { IfOk result (λ counts. length counts.items ≡ length nodes.now) }
     ensures counted { IfOk result (λ counts. (number : ℕ) → number < length nodes.now
-        → slice_index counts.items number ≡ pending_children nodes.now pending.now number (length nodes.now)) }
+        → slice_index counts.items number
+        ≡ pending_children nodes.now pending.now number (length nodes.now)) }
 {
     let mut counts = vec![in alloc; 0usize; nodes.len()]?;
     let mut stamps = vec![in alloc; 0usize; nodes.len()]?;
@@ -73,11 +74,14 @@ pub(crate) fn release_parents(
     requires selected { length selected.now ≡ length counts.old }
     requires known { AreBelow (length counts.old) parents.now }
     requires unseen { AreBelow stamp stamps.old }
-    requires counted { (number : ℕ) → is_named number parents.now ≡ true → 0 < slice_index counts.old number }
-    ensures counts { OnOk result ((number : ℕ) → number < length counts.old → slice_index counts.new number
-        + (if is_named number parents.now then 1 else 0) ≡ slice_index counts.old number) }
+    requires counted { (number : ℕ) → is_named number parents.now ≡ true
+        → 0 < slice_index counts.old number }
+    ensures counts { OnOk result ((number : ℕ) → number < length counts.old
+        → slice_index counts.new number + (if is_named number parents.now then 1 else 0)
+        ≡ slice_index counts.old number) }
     ensures seen { OnOk result (AreBelow (stamp + 1) stamps.new) }
-    ensures ready { IfOk result (λ ready. ready.items ≡ freed_parents selected.now counts.old parents.now) }
+    ensures ready { IfOk result (λ ready. ready.items
+        ≡ freed_parents selected.now counts.old parents.now) }
 {
     let mut ready = Vec::new(alloc);
     let mut left = parents.len();
@@ -105,7 +109,8 @@ pub(crate) fn first_ready(
 ) -> Result<Vec<usize>, AllocError>
     requires lengths { length selected.now ≡ length counts.now }
     requires known { AreBelow (length counts.now) tips.now }
-    ensures { IfOk result (λ ready. ready.items ≡ first_tips selected.now counts.now [] tips.now) }
+    ensures { IfOk result (λ ready. ready.items
+        ≡ first_tips selected.now counts.now [] tips.now) }
 {
     let mut ready = Vec::new(alloc);
     let mut seen = vec![in alloc; false; counts.len()]?;

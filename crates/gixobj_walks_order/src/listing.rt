@@ -36,7 +36,8 @@ pub fn list_in_order(
     requires reached { AreReached nodes.now selected.now tips.now }
     ensures listing { IfOk result
         (λ ids. IsListing (graph_at nodes.now) order (IsMarked selected.now) tips.now ids.items) }
-    ensures exact { IfOk result (λ ids. (number : ℕ) → Contains ids.items number ↔ IsMarked selected.now number) }
+    ensures exact { IfOk result (λ ids. (number : ℕ)
+        → Contains ids.items number ↔ IsMarked selected.now number) }
     ensures error { IfErr result (IsListError nodes.now selected.now) }
 {
     if !is_any_marked(selected) {

@@ -105,8 +105,10 @@ pub(crate) fn count(numbers: &[usize]) -> usize
 
 /// Takes the next of the commits that wait: the one that was found last, else the newest.
 pub(crate) fn take_next(queue: &mut Queue) -> Option<usize>
-    ensures next { IfSome result (λ number. IsNext (waiting_of queue.old) number (waiting_of queue.new)) }
-    ensures keys { IfSome result (λ _. (popped : List Key) × (queue.old.dated.keys ≡ popped ++ queue.new.dated.keys)) }
+    ensures next { IfSome result (λ number.
+        IsNext (waiting_of queue.old) number (waiting_of queue.new)) }
+    ensures keys { IfSome result (λ _. (popped : List Key)
+        × (queue.old.dated.keys ≡ popped ++ queue.new.dated.keys)) }
     ensures none { IfNone result ((queue.old.dated.keys ≡ []) × (queue.old.found.items ≡ [])) }
     ensures unchanged { IfNone result ((queue.new.dated.keys ≡ []) × (queue.new.found.items ≡ [])) }
 {

@@ -71,8 +71,8 @@ pub(crate) fn list_next(
     requires read { AreMarkedRead nodes.now selected.now }
     requires state { IsState nodes.now selected.now state.old }
     ensures state { OnOk result (IsState nodes.now selected.now state.new) }
-    ensures listed { IfOk result (λ more. MatchBool more (ListsNext nodes.now selected.now order state.old state.new)
-        (IsLast state.old state.new)) }
+    ensures listed { IfOk result (λ more. MatchBool more
+        (ListsNext nodes.now selected.now order state.old state.new) (IsLast state.old state.new)) }
 {
     let Some(number) = take_next(&mut state.queue) else {
         return Ok(false);
