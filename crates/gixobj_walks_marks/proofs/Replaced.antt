@@ -1,5 +1,5 @@
 -- The next commit is taken out of the queue, and commits are added.
-use Rattle.std.proofs.Common.{◌≡◌, ◌∙◌, ◌++◌, ◌+◌, ◌<◌, ℕ, Bool, true, false, List, [], ◌∷◌, None, refl, sym, ap, subst, length, replicate, arith}
+use Rattle.std.proofs.Common.{◌≡◌, ◌∙◌, ◌++◌, ◌+◌, ◌<◌, ℕ, Bool, false, List, [], ◌∷◌, None, refl, sym, ap, subst, length, replicate, arith}
 use Rattle.std.proofs.lemmas.List.{append-nil, append_assoc, length-replicate, replicate-append-replicate}
 use Rattle.std.proofs.Common.{length-append}
 use Rattle.std.proofs.lemmas.List.Sorted.{IsPermutation-cons, IsPermutation-refl, IsPermutation-swap, IsPermutation-trans}
@@ -7,7 +7,7 @@ use Rattle.std.specs.List.{AllByRecursion}
 use Rattle.std.specs.List.Sorted.{IsPermutation}
 use Rattle.gixobj_walks_graph.specs.Numbered.{Nodes}
 use Rattle.gixobj_walks_marks.specs.Queue.{IsTakenOut}
-use Rattle.gixobj_walks_marks.specs.Readings.{IsReading, IsUnread, KeepsMarks, ReplacesNext, reads}
+use Rattle.gixobj_walks_marks.specs.Readings.{IsReading, IsUnread, KeepsMarks, ReplacesNext}
 use Rattle.gixobj_walks_marks.specs.declared.queue.Unread.{Unread}
 use Rattle.gixobj_walks_marks.proofs.Kept.{added_is_reading, marks_push}
 use Rattle.gixobj_walks_marks.proofs.Queued.{counted_taken, reads_push, taken_is_unread, times_first}

@@ -61,8 +61,8 @@ chosen_left left right number in_left in_right on_left = and_then (not (get_or r
 
 -- a test on another commit
 pub chosen_else : (left right : List Bool) (number : ℕ) → get_or left number false ≡ false
-    → IsTrue false ↔ IsChosen left right number
-chosen_else left right number none = and_else false refl (read_unmarked left number none)
+    → IsTrue (get_or left number false) ↔ IsChosen left right number
+chosen_else left right number none = and_else (get_or left number false) none (read_unmarked left number none)
 
 -- ---- lists of numbers
 

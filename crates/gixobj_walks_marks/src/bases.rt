@@ -27,7 +27,8 @@ pub fn selected(alloc: Global, left: &[bool], right: &[bool]) -> Result<Vec<bool
     ensures length { IfOk result (λ chosen. length chosen.items ≡ length left.now) }
     ensures selected { IfOk result (λ chosen. (nodes : Nodes) (tips hidden : List ℕ)
         → HasMarks nodes tips left.now → HasMarks nodes hidden right.now
-        → (number : ℕ) → IsMarked chosen.items number ↔ IsSelected (graph_at nodes) tips hidden number) }
+        → (number : ℕ) → IsMarked chosen.items number
+        ↔ IsSelected (graph_at nodes) tips hidden number) }
     ensures allocates { OnErr result (0 < length left.now) }
 {
     chosen_marks(alloc, left, right)
@@ -69,7 +70,8 @@ pub fn candidates(
     requires right { length right.now ≡ length nodes.now }
     ensures exact { IfOk result (λ found. (one other : ℕ) → HasMarks nodes.now (one ∷ []) left.now
         → HasMarks nodes.now (other ∷ []) right.now
-        → (number : ℕ) → Contains found.items number ↔ IsCandidate (graph_at nodes.now) one other number) }
+        → (number : ℕ) → Contains found.items number
+        ↔ IsCandidate (graph_at nodes.now) one other number) }
     ensures ascending { IfOk result (λ found. IsStrictlyIncreasing found.items) }
     ensures listed { IfOk result (λ found. ListsBelow (IsCandidateAt nodes.now left.now right.now)
         (length nodes.now) found.items) }
@@ -102,7 +104,7 @@ fn is_shared(left: &[bool], right: &[bool], number: usize) -> bool
     requires right { number < length right.now }
     ensures { IsTrue result ↔ IsShared left.now right.now number }
 {
-    if left[number] { right[number] } else { false }
+    left[number] && right[number]
 }
 
 /// Lists the commits that the left side has, and the right side doesn't, ascending.

@@ -9,16 +9,16 @@ use gixobj_walks_graph::Node;
 use std::alloc::{AllocError, Global};
 
 /// Tests whether the left side has a commit, and the right side doesn't.
-pub fn is_chosen(left: &[bool], right: &[bool], number: usize) -> bool
+pub(crate) fn is_chosen(left: &[bool], right: &[bool], number: usize) -> bool
     requires left { number < length left.now }
     requires right { number < length right.now }
     ensures { IsTrue result ↔ IsChosen left.now right.now number }
 {
-    if left[number] { !right[number] } else { false }
+    left[number] && !right[number]
 }
 
 /// Tests whether one of the sides has a commit that is not read.
-pub fn is_wanted(nodes: &[Option<Node>], left: &[bool], right: &[bool], number: usize) -> bool
+fn is_wanted(nodes: &[Option<Node>], left: &[bool], right: &[bool], number: usize) -> bool
     requires number { number < length nodes.now }
     requires left { length left.now ≡ length nodes.now }
     requires right { length right.now ≡ length nodes.now }
@@ -26,12 +26,12 @@ pub fn is_wanted(nodes: &[Option<Node>], left: &[bool], right: &[bool], number: 
 {
     match &nodes[number] {
         Some(_) => false,
-        None => { if left[number] { true } else { right[number] } }
+        None => left[number] || right[number],
     }
 }
 
 /// Tests whether each unread commit that either side has is marked.
-pub fn are_wanted_marked(
+pub(crate) fn are_wanted_marked(
     nodes: &[Option<Node>],
     left: &[bool],
     right: &[bool],
@@ -65,15 +65,11 @@ fn is_missed(
     ensures { IsTrue result
         ↔ (IsWantedAt nodes.now left.now right.now number × (¬ IsMarked marked.now number)) }
 {
-    if is_wanted(nodes, left, right, number) {
-        !marked[number]
-    } else {
-        false
-    }
+    is_wanted(nodes, left, right, number) && !marked[number]
 }
 
 /// Tests whether a chosen commit is read and has no chosen parent.
-pub fn is_bottom(nodes: &[Option<Node>], left: &[bool], right: &[bool], number: usize) -> bool
+fn is_bottom(nodes: &[Option<Node>], left: &[bool], right: &[bool], number: usize) -> bool
     requires known { AreParentsKnown nodes.now }
     requires number { number < length nodes.now }
     requires left { length left.now ≡ length nodes.now }
@@ -94,11 +90,7 @@ fn is_last(left: &[bool], right: &[bool], number: usize, parents: &[usize]) -> b
     ensures { IsTrue result ↔ (IsChosen left.now right.now number
         × ((parent : ℕ) → Contains parents.now parent → ¬ IsChosen left.now right.now parent)) }
 {
-    if is_chosen(left, right, number) {
-        is_none_chosen(left, right, parents)
-    } else {
-        false
-    }
+    is_chosen(left, right, number) && is_none_chosen(left, right, parents)
 }
 
 /// Tests whether none of the commits is chosen.
@@ -117,7 +109,7 @@ fn is_none_chosen(left: &[bool], right: &[bool], numbers: &[usize]) -> bool
 }
 
 /// Lists the bottoms, ascending.
-pub fn bottoms(
+pub(crate) fn bottoms(
     alloc: Global,
     nodes: &[Option<Node>],
     left: &[bool],
@@ -139,7 +131,7 @@ pub fn bottoms(
 }
 
 /// Appends a number if a test is true.
-pub fn push_if(found: &mut Vec<usize>, number: usize, is: bool) -> Result<(), AllocError>
+pub(crate) fn push_if(found: &mut Vec<usize>, number: usize, is: bool) -> Result<(), AllocError>
     ensures { OnOk result (found.new.items
         ≡ (if is then (found.old.items ++ number ∷ []) else found.old.items)) }
 {

@@ -10,7 +10,7 @@ use gixobj_walks_graph::Node;
 use std::alloc::{AllocError, Global};
 
 /// Marks a start and what it reaches.
-pub fn mark_start(
+pub(crate) fn mark_start(
     alloc: Global,
     nodes: &[Option<Node>],
     marked: &mut Vec<bool>,
@@ -29,7 +29,7 @@ pub fn mark_start(
 }
 
 /// Passes the mark of a commit that is being read, if it has one, to its parents and what they reach.
-pub fn pass_mark(
+pub(crate) fn pass_mark(
     alloc: Global,
     nodes: &[Option<Node>],
     marked: &mut Vec<bool>,

@@ -7,15 +7,15 @@ use std::collections::BinaryHeap;
 
 /// A commit that is known and not read yet. The one with the newest child comes first.
 #[derive(Clone, Copy, PartialEq, Eq, PartialOrd, Ord)]
-pub struct Unread {
+pub(crate) struct Unread {
     /// The seconds of the child that it was found by.
-    pub seconds: u64,
+    pub(crate) seconds: u64,
     /// Its number.
-    pub number: usize,
+    pub(crate) number: usize,
 }
 
 /// Takes the first commit out of the queue.
-pub fn take_out(queue: &mut BinaryHeap<Unread>, number: usize)
+pub(crate) fn take_out(queue: &mut BinaryHeap<Unread>, number: usize)
     requires { next_of (heap_items queue.old) ≡ Some number }
     ensures { IsTakenOut number (heap_items queue.old) (heap_items queue.new) }
 {

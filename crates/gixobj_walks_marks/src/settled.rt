@@ -12,7 +12,7 @@ use gixobj_walks_graph::Node;
 use std::alloc::{AllocError, Global};
 
 /// The most bottoms or candidates that a test looks at.
-pub const MOST: usize = 16;
+pub(crate) const MOST: usize = 16;
 
 /// Tests whether a walk has read enough: what is not read changes nothing of what is selected.
 ///
@@ -56,7 +56,7 @@ pub fn is_settled_walk(
 }
 
 /// Tests whether each of these commits reaches each unread one that either side has.
-pub fn all_reach_wanted(
+pub(crate) fn all_reach_wanted(
     alloc: Global,
     nodes: &[Option<Node>],
     left: &[bool],
@@ -101,7 +101,7 @@ fn reaches_wanted(
 }
 
 /// Makes marks of `count` commits, none of them marked. Allocates nothing for no commit.
-pub fn no_marks(alloc: Global, count: usize) -> Result<Vec<bool>, AllocError>
+pub(crate) fn no_marks(alloc: Global, count: usize) -> Result<Vec<bool>, AllocError>
     ensures length { IfOk result (λ marked. length marked.items ≡ count) }
     ensures none { IfOk result (λ marked. (number : ℕ) → ¬ IsMarked marked.items number) }
     ensures allocates { OnErr result (0 < count) }

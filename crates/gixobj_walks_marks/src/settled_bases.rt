@@ -63,11 +63,7 @@ fn are_wanted_shared(nodes: &[Option<Node>], left: &[bool], right: &[bool]) -> b
     ensures { IsTrue result ↔ (AreWantedMarked nodes.now left.now right.now left.now
         × AreWantedMarked nodes.now left.now right.now right.now) }
 {
-    if are_wanted_marked(nodes, left, right, left) {
-        are_wanted_marked(nodes, left, right, right)
-    } else {
-        false
-    }
+    are_wanted_marked(nodes, left, right, left) && are_wanted_marked(nodes, left, right, right)
 }
 
 /// Tests whether each of these commits is read.

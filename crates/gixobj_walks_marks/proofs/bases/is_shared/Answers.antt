@@ -1,4 +1,4 @@
-use Rattle.std.proofs.Common.{false, get_or, refl}
+use Rattle.std.proofs.Common.{false, get_or}
 use Rattle.gixobj_walks_marks.proofs.Marked.{read_marked, read_unmarked}
 use Rattle.gixobj_walks_marks.proofs.Tests.{and_else, and_then, mark_decides}
 use Rattle.gixobj_walks_marks.proofs.bases.is_shared.Goals as goal
@@ -9,5 +9,5 @@ returns-then-left-number c = and_then (get_or c.args.right.now c.args.number fal
     (mark_decides c.args.right.now c.args.number c.requires.right)
 
 pub returns-else-left-number : goal.returns-else-left-number
-returns-else-left-number c = and_else false refl
+returns-else-left-number c = and_else (get_or c.args.left.now c.args.number false) c.if-left-number.false
     (read_unmarked c.args.left.now c.args.number c.if-left-number.false)
