@@ -1,6 +1,7 @@
 pub mod BaseEnds
 mod CommitNumbers
 mod IdOrder
+mod KnownIds
 mod LargerGraphs
 mod Machines
 mod GivenCommits

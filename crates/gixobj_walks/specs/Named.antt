@@ -1,5 +1,5 @@
 -- Graphs whose numbered commits have names: the ids of the commits.
-use Rattle.std.specs.Prelude.{◌≡◌, ◌++◌, ℕ, List, Option, Some, slice_get}
+use Rattle.std.specs.Prelude.{◌≡◌, ◌⊎◌, ◌++◌, ℕ, List, Option, Some, Contains, slice_get}
 use Rattle.std.specs.List.{AllZip}
 use Rattle.gixobj_walks_graph.specs.Graph.{Graph, NodeView}
 use Rattle.gixobj_walks_graph.specs.Numbered.{Nodes, graph_at}
@@ -32,6 +32,10 @@ IsUnnamed ids id = (number : ℕ) → ¬ Names ids number id
 -- each name keeps its number, and more may follow
 abbrev pub Extends : {V : Type 0} → List V → List V → Type 0
 Extends {V} old new = (more : List V) × (new ≡ old ++ more)
+
+-- each of these names is one of the first list, or of the second
+abbrev pub AreOfEither : {V : Type 0} → List V → List V → List V → Type 0
+AreOfEither {V} ids first second = (id : V) → Contains ids id → Contains first id ⊎ Contains second id
 
 -- the graph of the commits that a function has for their names
 abbrev pub graph_of : {V : Type 0} → (V → Option (NodeView V)) → Graph V

@@ -1,7 +1,7 @@
 //! The numbers of commits.
 ghost use Rattle.std.specs.Prelude.{◌≡◌, ◌++◌, [], ◌∷◌, ◌<◌, length, IfOk, MatchOption, OnErr, OnOk};
 ghost use Rattle.std.specs.List.{AllByRecursion, AllZip};
-ghost use Rattle.gixobj_walks.specs.Named.{AreDistinct, Extends, IsUnnamed, Names};
+ghost use Rattle.gixobj_walks.specs.Named.{AreDistinct, AreOfEither, Extends, IsUnnamed, Names};
 
 use gixobj_hash::hash::ObjectId;
 use std::alloc::{AllocError, Global};
@@ -92,6 +92,7 @@ impl CommitNames {
 pub fn number_in(names: &mut CommitNames, id: ObjectId) -> Result<usize, AllocError>
     ensures named { IfOk result (λ number. Names names.new number id) }
     ensures extended { OnOk result (Extends names.old names.new) }
+    ensures known { OnOk result (AreOfEither names.new names.old (id ∷ [])) }
 {
     match names.number_of(&id) {
         Some(number) => Ok(number),
@@ -111,6 +112,7 @@ pub fn numbers_in(
 ) -> Result<Vec<usize>, AllocError>
     ensures named { IfOk result (λ numbers. AllZip (Names names.new) numbers.items ids.now) }
     ensures extended { OnOk result (Extends names.old names.new) }
+    ensures known { OnOk result (AreOfEither names.new names.old ids.now) }
 {
     let mut numbers = Vec::new(alloc);
     for id in ids {

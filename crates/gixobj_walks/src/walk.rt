@@ -1,6 +1,6 @@
 //! A walk that requests the commits that it needs.
-ghost use Rattle.std.specs.Prelude.{◌≡◌, ◌↔◌, ◌⊎◌, ◌+◌, ◌++◌, ◌<◌, None, Some, [], ℕ, List, Option, IfErr, IfNone};
-ghost use Rattle.std.specs.Prelude.{IsTrue, IfOk, IfSome, IsSome, length, replicate};
+ghost use Rattle.std.specs.Prelude.{◌≡◌, ◌↔◌, ◌⊎◌, ◌+◌, ◌++◌, ◌<◌, ◌≤◌, None, Some, [], ℕ, List, Option, IfErr, IfNone};
+ghost use Rattle.std.specs.Prelude.{IsTrue, IfOk, IfSome, IsSome, Contains, length, replicate};
 ghost use Rattle.std.specs.List.{AllByRecursion};
 ghost use Rattle.gixobj_hash.specs.declared.hash.object_id.ObjectId.{ObjectId as Id};
 ghost use Rattle.gixobj_walks_graph.specs.Graph.{IsAcyclic, IsIncluded, NodeView};
@@ -10,7 +10,7 @@ ghost use Rattle.gixobj_walks_graph.specs.Numbered.{graph_at};
 ghost use Rattle.gixobj_walks_marks.specs.Marks.{HasMarks};
 ghost use Rattle.gixobj_walks_marks.specs.Settled.{IsSettledWalk};
 ghost use Rattle.gixobj_walks.specs.Machine.{given_graph};
-ghost use Rattle.gixobj_walks.specs.Named.{graph_of};
+ghost use Rattle.gixobj_walks.specs.Named.{AreOfEither, graph_of};
 ghost use Rattle.gixobj_walks.specs.WalkErrors.{IsWalkListError};
 
 use crate::names::{CommitNames, ids_of, numbers_in};
@@ -65,6 +65,7 @@ impl Walk {
         ensures tips { IfOk result (λ walk. walk.tips ≡ tips.now) }
         ensures hidden { IfOk result (λ walk. walk.hidden ≡ hidden.now) }
         ensures given { IfOk result (λ walk. (id : Id) (node : NodeView Id) → ¬ given_graph walk id node) }
+        ensures known { IfOk result (λ walk. AreOfEither walk.ids tips.now hidden.now) }
     {
         let mut names = CommitNames::new(alloc);
         let tips = numbers_in(alloc, &mut names, tips)?;
@@ -90,6 +91,7 @@ impl Walk {
         ensures wanted { result ≡ self.now.wanted }
         ensures settled { IfNone result
             (IsSettledWalk (given_graph self.now) self.now.tips self.now.hidden) }
+        ensures known { IfSome result (Contains self.now.ids) }
     {
         if self.is_settled {
             return None;
@@ -121,6 +123,8 @@ impl Walk {
             → given_graph walk id node ↔ (given_graph self id node
             ⊎ ((id ≡ commit) × (node ≡ record { parents = parents.now; seconds = seconds })))) }
         ensures reads { IfOk result (λ walk. reads walk.nodes ≡ reads self.nodes + 1) }
+        ensures maximum { IfOk result (λ walk. reads walk.nodes ≤ usize.MAX) }
+        ensures known { IfOk result (λ walk. AreOfEither walk.ids self.ids parents.now) }
     {
         let Walk {
             mut names,
@@ -135,16 +139,16 @@ impl Walk {
         };
         let parents = numbers_in(alloc, &mut names, parents)?;
         let added = names.len() - reading.len();
-        let reads = reading.reads();
         let reading = reading.read(alloc, number, parents, added, seconds)?;
         let is_settled = has_read_enough(alloc, &reading, next_test)?;
+        let next_test = test_after(reading.reads(), next_test);
         Ok(Walk {
             names,
             reading,
             tips,
             hidden,
             is_settled,
-            next_test: test_after(reads, next_test),
+            next_test,
         })
     }
 

@@ -3,7 +3,7 @@ use Rattle.std.proofs.Common.{◌≡◌, ◌∙◌, ◌⊎◌, ◌↔◌, ◌-�
 use Rattle.gixobj_walks.specs.Machine.{WalkView}
 use Rattle.gixobj_walks.proofs.Machines.{below_of_zip, given_walk, names_of_extends, walking_given, wanted_number}
 use Rattle.gixobj_walks.proofs.LargerGraphs.{all_weaker}
-use Rattle.gixobj_walks.specs.Named.{Names, named_graph}
+use Rattle.gixobj_walks.specs.Named.{AreOfEither, Names, named_graph}
 use Rattle.gixobj_walks.proofs.NamedPaths.{below_of_name}
 use Rattle.gixobj_walks.proofs.walk.Walk.insert.Goals as goal
 
@@ -31,6 +31,10 @@ returns-clause-tips c = names_of_extends c.self.inside.names c.numbers_in.new.na
 pub returns-clause-hidden : goal.returns-clause-hidden
 returns-clause-hidden c = names_of_extends c.self.inside.names c.numbers_in.new.names c.in_ok-parents.ensures.extended
     c.self.inside.hidden.items c.self.invariant.hidden_known ∙ ap (λ (w : WalkView). w.hidden) c.self.view_is
+
+pub returns-clause-known : goal.returns-clause-known
+returns-clause-known c = subst (λ (w : WalkView). AreOfEither c.numbers_in.new.names w.ids c.args.parents.now) c.self.view_is
+    c.in_ok-parents.ensures.known
 
 pub returns-clause-given : goal.returns-clause-given
 returns-clause-given c = λ id commit node wanted.

@@ -4,6 +4,7 @@ use Rattle.std.specs.List.{AllByRecursion}
 use Rattle.gixobj_walks_marks.specs.Marks.{HasMarks}
 use Rattle.gixobj_walks.proofs.Machines.{below_extends, below_of_zip, names_of_found}
 use Rattle.gixobj_walks.proofs.NamedLists.{names_extend}
+use Rattle.gixobj_walks.proofs.KnownIds.{known_starts}
 use Rattle.gixobj_walks.proofs.Starts.{nothing_given, unread_length, walking_begun}
 use Rattle.gixobj_walks.proofs.walk.Walk.new.Goals as goal
 
@@ -62,6 +63,10 @@ returns-clause-tips c = names_of_found c.numbers_in-2.new.names c.in_ok-tips.tip
 pub returns-clause-hidden : goal.returns-clause-hidden
 returns-clause-hidden c = names_of_found c.numbers_in-2.new.names c.in_ok-hidden.hidden.items c.args.hidden.now
     c.in_ok-hidden.ensures.named
+
+pub returns-clause-known : goal.returns-clause-known
+returns-clause-known c = known_starts c.new-names.result c.numbers_in.new.names c.numbers_in-2.new.names c.args.tips.now c.args.hidden.now
+    c.new-names.ensures c.in_ok-tips.ensures.known c.in_ok-hidden.ensures.known
 
 pub returns-clause-given : goal.returns-clause-given
 returns-clause-given c = λ id node given.
