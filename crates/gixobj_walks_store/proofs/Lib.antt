@@ -1,0 +1,4 @@
+mod Bottoms
+mod GivenWalks
+mod Peels
+mod StoreWalks

@@ -1,0 +1,4 @@
+pub mod Errors
+pub mod ListErrors
+pub mod Peeled
+pub mod Reached

@@ -1,0 +1,12 @@
+//! Walks over the commits of an object store (git-rev-list).
+//!
+//! A walk looks up the commits that it needs, and no others.
+#![tactic(auto)]
+
+pub mod error;
+pub mod list;
+mod peel;
+
+pub use error::WalkError;
+pub use list::list_commits;
+pub use peel::peel_to_commits;
