@@ -1,0 +1,5 @@
+//! Tests of walks over a store.
+#![tactic(auto)]
+
+#[cfg(test)]
+mod lists;
