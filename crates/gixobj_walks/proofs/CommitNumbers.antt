@@ -1,6 +1,6 @@
 -- The numbers of commits' ids: what a lookup finds, and the numbers after an id is appended.
-use Rattle.std.proofs.Common.{◌≡◌, ◌∙◌, ◌++◌, ℕ, zero, suc, Bool, true, false, List, [], ◌∷◌, refl, sym, ap, subst, length, arith, MatchOption, ◌⊎◌, ⊎_elim}
-use Rattle.std.proofs.Common.{inl, inr}
+use Rattle.std.proofs.Common.{◌≡◌, ◌∙◌, ◌++◌, ℕ, zero, suc, Bool, true, false, cond, List, [], ◌∷◌, refl, sym, ap, subst}
+use Rattle.std.proofs.Common.{◌⊎◌, MatchOption, arith, inl, inr, length, ⊎_elim}
 use Rattle.std.specs.Prelude.{Option, Some, None}
 use Rattle.std.specs.BTreeMap as tree
 use Rattle.std.specs.BTreeMap.{BTreeMap, Updates, is_at}
@@ -70,7 +70,7 @@ module _ (ids : List ObjectId) (old new : BTreeMap ObjectId ℕ) (id : ObjectId)
       (b : Bool) → is_at (id_cmp id) key ≡ b → Names (ids ++ id ∷ []) number key → tree.get id_cmp new key ≡ Some number
   pushed_numbered are unnamed updates key number true same name =
       ⊎_elim (λ before. absurd (unnamed number (subst (λ it. Names ids number it) (sym (same_id_of_is_eq id key same)) before)))
-      (λ last. let position : number ≡ length ids = last.0 in cc (updates.0 key)) (name_cases ids id number key name)
+      (λ last. updates.0 key ∙ ap (λ b. cond b (Some (length ids)) (tree.get id_cmp old key)) same ∙ ap Some (sym last.0)) (name_cases ids id number key name)
   pushed_numbered are unnamed updates key number false other name =
       ⊎_elim (λ before. updates.2 key other ∙ are.numbered key number before)
       (λ last. absurd (other_than_itself other last.1)) (name_cases ids id number key name)
