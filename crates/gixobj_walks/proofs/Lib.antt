@@ -9,6 +9,8 @@ pub mod NamedBases
 pub mod NamedEnds
 mod NamedLists
 mod NamedWalks
+mod NewestLists
+mod Searches
 mod Starts
 pub mod NamedPaths
 pub mod WalkEnds

@@ -2,7 +2,7 @@
 use Rattle.std.proofs.Common.{◌≡◌, ◌∙◌, ◌++◌, ◌⊎◌, ◌↔◌, ℕ, ◌+◌, ◌-◌, ◌<◌, ◌≤◌, Bool, true, false, List, [], ◌∷◌, set, replicate, ⊎_elim, refl, sym, ap, subst}
 use Rattle.std.proofs.Common.{length, length-append, length-set, arith}
 use Rattle.std.proofs.lemmas.List.{length-replicate}
-use Rattle.std.specs.Prelude.{Option, Some, None, IsTrue, slice_get}
+use Rattle.std.specs.Prelude.{Option, Some, None, Result, Ok, Err, IfNone, IfOk, IsTrue, slice_get}
 use Rattle.std.specs.List.{AllByRecursion, AllZip}
 use Rattle.gixobj_hash.specs.declared.hash.object_id.ObjectId.{ObjectId}
 use Rattle.gixobj_walks_graph.specs.Graph.{NodeView}
@@ -20,6 +20,17 @@ use Rattle.gixobj_walks.proofs.NamedLists.{names_extend}
 use Rattle.gixobj_walks.proofs.NamedPaths.{below_of_name, name_below}
 use Rattle.gixobj_walks.specs.Machine.{IsWalking, names_of, wanted_of}
 use Rattle.gixobj_walks.specs.Named.{AreDistinct, Extends, Names, named_graph}
+
+-- what follows if there is no value
+pub none_weaker : {X : Type 0} (found : Option X) (P Q : Type 0) → (P → Q) → IfNone found P → IfNone found Q
+none_weaker None P Q weaker is = weaker is
+none_weaker (Some x) P Q weaker is = tt
+
+-- what follows from two facts of a value
+pub ok_of_both : {X E : Type 0} (result : Result X E) {P Q S : X → Type 0} → IfOk result P → IfOk result Q
+    → ((x : X) → P x → Q x → S x) → IfOk result S
+ok_of_both (Ok x) first second both = both x first second
+ok_of_both (Err error) first second both = tt
 
 -- ---- names of numbers
 
@@ -102,6 +113,12 @@ wanted_number true ids next id is = absurd (cc)
 wanted_number false ids None id is = absurd (cc)
 wanted_number false ids (Some number) id is = (number, refl, refl, is)
 
+-- what is wanted is the name of the next number
+pub wanted_unread : (settled : Bool) (ids : List ObjectId) (next : Option ℕ) (id : ObjectId) → wanted_of settled ids next ≡ Some id
+    → wanted_of false ids next ≡ Some id
+wanted_unread true ids next id is = absurd (cc)
+wanted_unread false ids next id is = is
+
 -- what is kept when a commit is given
 pub walking_given : (old new : List ObjectId) (reading done : ReadingView) (tips hidden : List ℕ) (settled : Bool) (number added : ℕ)
     (parents : List ℕ) (seconds : ℕ) → IsWalking old reading tips hidden settled → Extends old new → AreDistinct new
@@ -109,10 +126,8 @@ pub walking_given : (old new : List ObjectId) (reading done : ReadingView) (tips
     → AllByRecursion (λ parent. parent < length new) parents
     → done.nodes ≡ set (reading.nodes ++ replicate added None) number (Some (record { parents = parents; seconds = seconds }))
     → KeepsMarks reading.nodes reading.left done.nodes done.left → KeepsMarks reading.nodes reading.right done.nodes done.right
-    → (ended : Bool) → (HasMarks done.nodes tips done.left → HasMarks done.nodes hidden done.right → IsTrue ended
-    → IsSettledWalk (graph_at done.nodes) tips hidden)
-    → IsWalking new done tips hidden ended
-walking_given old new reading done tips hidden settled number added parents seconds is extends distinct inside count below nodes left right ended tested =
+    → IsWalking new done tips hidden false
+walking_given old new reading done tips hidden settled number added parents seconds is extends distinct inside count below nodes left right =
     let longer = length_extends old new extends in
     let total : length reading.nodes + added ≡ length new = omega (arith, longer, is.lengths) in
     let larger_length = length_larger reading.nodes number added parents seconds in
@@ -125,8 +140,27 @@ walking_given old new reading done tips hidden settled number added parents seco
       hidden_known = below_extends old new extends hidden is.hidden_known;
       left = left tips is.left;
       right = right hidden is.right;
-      end = tested (left tips is.left) (right hidden is.right);
+      end = λ settled. absurd (not_settled settled);
     }
+  where
+    not_settled : ¬ IsTrue false
+    not_settled is = cc is
+
+-- what is kept if a test says whether enough is read
+pub walking_settled : (ids : List ObjectId) (reading : ReadingView) (tips hidden : List ℕ) → IsWalking ids reading tips hidden false
+    → (settled : Bool) → (HasMarks reading.nodes tips reading.left → HasMarks reading.nodes hidden reading.right → IsTrue settled
+    → IsSettledWalk (graph_at reading.nodes) tips hidden)
+    → IsWalking ids reading tips hidden settled
+walking_settled ids reading tips hidden is settled tested = record {
+  lengths = is.lengths;
+  known = is.known;
+  distinct = is.distinct;
+  tips_known = is.tips_known;
+  hidden_known = is.hidden_known;
+  left = is.left;
+  right = is.right;
+  end = tested is.left is.right;
+}
 
 -- the graph of the commits that were given
 pub given_walk : (old new : List ObjectId) (nodes done : Nodes) (added number : ℕ) (parents : List ℕ) (seconds : ℕ) (id : ObjectId)

@@ -76,7 +76,7 @@ module _ {V : Type 0} (ids : List V) (nodes : Nodes) (known : AreParentsKnown no
         child_name child parent edge = name_below ids child
             (subst (λ n. child < n) lengths (below_of_name nodes child (Some edge.node) edge.named))
 
-    wanted_base_numbered : (id : V) → IsWantedBase (named_graph ids nodes) one_id other_id id
+    pub wanted_base_numbered : (id : V) → IsWantedBase (named_graph ids nodes) one_id other_id id
         → (number : ℕ) × Names ids number id × IsWantedBase (graph_at nodes) one other number
     wanted_base_numbered id wanted = ⊎_elim
         (λ reached.

@@ -88,7 +88,7 @@ named_or_not (first ∷ ids) id = ⊎_elim
 some_injective : {X : Type 0} (x y : X) → Some x ≡ Some y → x ≡ y
 some_injective x y same = cc
 
-functional_of_function : {V : Type 0} (F : V → Option (NodeView V)) → IsFunctional (graph_of F)
+pub functional_of_function : {V : Type 0} (F : V → Option (NodeView V)) → IsFunctional (graph_of F)
 functional_of_function F id node other is other_is = some_injective node other (sym is ∙ other_is)
 
 module _ (ids : List ObjectId) (reading : ReadingView) (tips hidden : List ℕ) (settled : Bool)
@@ -96,7 +96,7 @@ module _ (ids : List ObjectId) (reading : ReadingView) (tips hidden : List ℕ) 
   abbrev Given : Graph ObjectId
   Given = named_graph ids reading.nodes
 
-  read_or_not_named : (id : ObjectId) → IsRead (named_graph ids reading.nodes) id ⊎ (¬ IsRead (named_graph ids reading.nodes) id)
+  pub read_or_not_named : (id : ObjectId) → IsRead (named_graph ids reading.nodes) id ⊎ (¬ IsRead (named_graph ids reading.nodes) id)
   read_or_not_named id = ⊎_elim
       (λ it. ⊎_elim (λ read. inl (read_named ids reading.nodes is.known is.lengths it.0 id read it.1))
       (λ unread. inr (λ read. unread (read_numbered ids reading.nodes is.distinct it.0 id read it.1)))
@@ -104,7 +104,7 @@ module _ (ids : List ObjectId) (reading : ReadingView) (tips hidden : List ℕ) 
       (λ none. inr (λ (node, given). none given.number given.name))
       (named_or_not ids id)
 
-  named_is_functional : IsFunctional (named_graph ids reading.nodes)
+  pub named_is_functional : IsFunctional (named_graph ids reading.nodes)
   named_is_functional id node other first second =
       let same = is.distinct second.number first.number id second.name first.name in
       let numbered : second.numbered ≡ first.numbered = some_injective second.numbered first.numbered

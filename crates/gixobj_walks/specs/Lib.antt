@@ -1,4 +1,6 @@
 pub mod Machine
 pub mod Named
+pub mod Newest
 pub mod Numbers
+pub mod Search
 pub mod WalkErrors

@@ -1,9 +1,14 @@
 //! Walks over the commits of a history (git-rev-list, git-merge-base).
 //!
-//! A walk over the commits that are read is a walk over each graph with these commits, once reading has ended.
+//! A walk over the commits that are read is a walk over each graph with these commits, once reading has ended. Likewise
+//! for a search for merge bases.
 #![tactic(auto)]
 
+pub mod bases;
+mod known;
 pub mod names;
+mod newest;
 pub mod walk;
 
+pub use bases::MergeBases;
 pub use walk::Walk;

@@ -1,11 +1,10 @@
 //! A walk that requests the commits that it needs.
-ghost use Rattle.std.specs.Prelude.{◌≡◌, ◌↔◌, ◌⊎◌, ◌+◌, ◌++◌, ◌<◌, ◌≤◌, None, Some, [], ℕ, List, Option, IfErr, IfNone};
-ghost use Rattle.std.specs.Prelude.{IsTrue, IfOk, IfSome, IsSome, Contains, length, replicate};
-ghost use Rattle.std.specs.List.{AllByRecursion};
+ghost use Rattle.std.specs.Prelude.{◌≡◌, ◌↔◌, ◌⊎◌, ◌+◌, ◌≤◌, None, Some, ℕ, List, Option, IfErr, IfNone, IfOk};
+ghost use Rattle.std.specs.Prelude.{IfSome, IsSome, IsTrue, Contains};
 ghost use Rattle.gixobj_hash.specs.declared.hash.object_id.ObjectId.{ObjectId as Id};
 ghost use Rattle.gixobj_walks_graph.specs.Graph.{IsAcyclic, IsIncluded, NodeView};
 ghost use Rattle.gixobj_walks_graph.specs.Walks.{IsWalk};
-ghost use Rattle.gixobj_walks_marks.specs.Readings.{KeepsMarks, reads};
+ghost use Rattle.gixobj_walks_marks.specs.Readings.{reads};
 ghost use Rattle.gixobj_walks_graph.specs.Numbered.{graph_at};
 ghost use Rattle.gixobj_walks_marks.specs.Marks.{HasMarks};
 ghost use Rattle.gixobj_walks_marks.specs.Settled.{IsSettledWalk};
@@ -13,7 +12,8 @@ ghost use Rattle.gixobj_walks.specs.Machine.{given_graph};
 ghost use Rattle.gixobj_walks.specs.Named.{AreOfEither, graph_of};
 ghost use Rattle.gixobj_walks.specs.WalkErrors.{IsWalkListError};
 
-use crate::names::{CommitNames, ids_of, numbers_in};
+use crate::known::{KnownCommits, test_after};
+use crate::names::ids_of;
 use gixobj_hash::hash::ObjectId;
 use gixobj_walks_graph::Order;
 use gixobj_walks_marks::{Reading, is_settled_walk, selected};
@@ -29,8 +29,7 @@ use std::marker::Model;
 /// A call that fails consumes the walk.
 #[derive(Drop)]
 pub struct Walk {
-    names: CommitNames,
-    reading: Reading,
+    known: KnownCommits,
     tips: Vec<usize>,
     hidden: Vec<usize>,
     is_settled: bool,
@@ -43,14 +42,15 @@ impl Model for Walk {
     ghost Value = { WalkView };
 
     ghost view = { λ walk. record {
-      tips = names_of walk.names walk.tips.items;
-      hidden = names_of walk.names walk.hidden.items;
-      ids = walk.names;
-      nodes = walk.reading.nodes;
-      wanted = wanted_of walk.is_settled walk.names walk.reading.next;
+      tips = names_of walk.known.names walk.tips.items;
+      hidden = names_of walk.known.names walk.hidden.items;
+      ids = walk.known.names;
+      nodes = walk.known.reading.nodes;
+      wanted = wanted_of walk.is_settled walk.known.names walk.known.reading.next;
     } };
 
-    ghost invariant = { λ walk. IsWalking walk.names walk.reading walk.tips.items walk.hidden.items walk.is_settled };
+    ghost invariant = { λ walk. IsWalking walk.known.names walk.known.reading walk.tips.items walk.hidden.items
+        walk.is_settled };
 }
 
 impl Walk {
@@ -67,15 +67,9 @@ impl Walk {
         ensures given { IfOk result (λ walk. (id : Id) (node : NodeView Id) → ¬ given_graph walk id node) }
         ensures known { IfOk result (λ walk. AreOfEither walk.ids tips.now hidden.now) }
     {
-        let mut names = CommitNames::new(alloc);
-        let tips = numbers_in(alloc, &mut names, tips)?;
-        let hidden = numbers_in(alloc, &mut names, hidden)?;
-        let reading = unread(Reading::new(alloc), names.len())?;
-        let reading = mark_left(alloc, reading, &tips)?;
-        let reading = mark_right(alloc, reading, &hidden)?;
+        let (known, tips, hidden) = KnownCommits::begin(alloc, tips, hidden)?;
         Ok(Walk {
-            names,
-            reading,
+            known,
             tips,
             hidden,
             is_settled: false,
@@ -96,10 +90,7 @@ impl Walk {
         if self.is_settled {
             return None;
         }
-        match self.reading.next_unread() {
-            Some(number) => Some(self.names.id_of(number)),
-            None => None,
-        }
+        self.known.next_unread()
     }
 
     /// Takes the commit that the walk needs next: its parents, in the order of its lines, and the seconds of its
@@ -127,24 +118,17 @@ impl Walk {
         ensures known { IfOk result (λ walk. AreOfEither walk.ids self.ids parents.now) }
     {
         let Walk {
-            mut names,
-            reading,
+            known,
             tips,
             hidden,
             next_test,
             ..
         } = self;
-        let Some(number) = reading.next_unread() else {
-            unreachable!()
-        };
-        let parents = numbers_in(alloc, &mut names, parents)?;
-        let added = names.len() - reading.len();
-        let reading = reading.read(alloc, number, parents, added, seconds)?;
-        let is_settled = has_read_enough(alloc, &reading, next_test)?;
-        let next_test = test_after(reading.reads(), next_test);
+        let known = known.insert(alloc, parents, seconds)?;
+        let is_settled = has_read_enough(alloc, &known.reading, next_test)?;
+        let next_test = test_after(known.reading.reads(), next_test);
         Ok(Walk {
-            names,
-            reading,
+            known,
             tips,
             hidden,
             is_settled,
@@ -175,9 +159,10 @@ impl Walk {
         let None = self.next_wanted() else {
             unreachable!()
         };
-        let chosen = selected(alloc, self.reading.left(), self.reading.right())?;
-        let numbers = list_in_order(alloc, self.reading.nodes(), &chosen, &self.tips, order)?;
-        Ok(ids_of(alloc, &self.names, &numbers)?)
+        let reading = &self.known.reading;
+        let chosen = selected(alloc, reading.left(), reading.right())?;
+        let numbers = list_in_order(alloc, reading.nodes(), &chosen, &self.tips, order)?;
+        Ok(ids_of(alloc, &self.known.names, &numbers)?)
     }
 }
 
@@ -191,62 +176,4 @@ fn has_read_enough(alloc: Global, reading: &Reading, next_test: usize) -> Result
         return Ok(false);
     }
     is_settled_walk(alloc, reading.nodes(), reading.left(), reading.right())
-}
-
-// Returns with how many commits the next test is made: after a test, with a quarter more. So all tests together take
-// linear time.
-fn test_after(reads: usize, next_test: usize) -> usize {
-    if reads < next_test {
-        next_test
-    } else {
-        reads.saturating_add(reads / 4).saturating_add(1)
-    }
-}
-
-// Adds commits that are not read, and have no mark.
-fn unread(reading: Reading, count: usize) -> Result<Reading, AllocError>
-    ensures nodes { IfOk result (λ done. done.nodes ≡ reading.nodes ++ replicate count None) }
-    ensures left { IfOk result (λ done. KeepsMarks reading.nodes reading.left done.nodes done.left) }
-    ensures right { IfOk result (λ done. KeepsMarks reading.nodes reading.right done.nodes done.right) }
-{
-    let mut reading = reading;
-    for _ in 0..count {
-        let (more, _) = reading.add(u64::MAX)?;
-        reading = more;
-    }
-    Ok(reading)
-}
-
-// Makes these commits the starts of the left side.
-fn mark_left(alloc: Global, reading: Reading, starts: &[usize]) -> Result<Reading, AllocError>
-    requires known { AllByRecursion (λ start. start < length reading.nodes) starts.now }
-    requires none { HasMarks reading.nodes [] reading.left }
-    ensures nodes { IfOk result (λ done. done.nodes ≡ reading.nodes) }
-    ensures left { IfOk result (λ done. HasMarks done.nodes starts.now done.left) }
-    ensures right { IfOk result (λ done. done.right ≡ reading.right) }
-{
-    let mut reading = reading;
-    let mut index = starts.len();
-    while index > 0 {
-        index -= 1;
-        reading = reading.mark_left(alloc, starts[index])?;
-    }
-    Ok(reading)
-}
-
-// Makes these commits the starts of the right side.
-fn mark_right(alloc: Global, reading: Reading, starts: &[usize]) -> Result<Reading, AllocError>
-    requires known { AllByRecursion (λ start. start < length reading.nodes) starts.now }
-    requires none { HasMarks reading.nodes [] reading.right }
-    ensures nodes { IfOk result (λ done. done.nodes ≡ reading.nodes) }
-    ensures left { IfOk result (λ done. done.left ≡ reading.left) }
-    ensures right { IfOk result (λ done. HasMarks done.nodes starts.now done.right) }
-{
-    let mut reading = reading;
-    let mut index = starts.len();
-    while index > 0 {
-        index -= 1;
-        reading = reading.mark_right(alloc, starts[index])?;
-    }
-    Ok(reading)
 }

@@ -1,6 +1,6 @@
 use Rattle.std.proofs.Common.{◌≡◌, ◌++◌, None, replicate}
 use Rattle.gixobj_walks_marks.specs.Readings.{KeepsMarks}
-use Rattle.gixobj_walks.proofs.walk.unread.Given as goal
+use Rattle.gixobj_walks.proofs.known.unread.Given as goal
 
 -- as many commits are added as the loop has run
 abbrev pub invariant-loop : goal.invariant-loop

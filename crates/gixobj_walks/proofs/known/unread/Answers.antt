@@ -1,7 +1,7 @@
 -- One commit more is added in each turn.
 use Rattle.std.proofs.Common.{◌∙◌, ◌++◌, [], ◌∷◌, None, ap}
 use Rattle.gixobj_walks.proofs.Starts.{one_more_unread}
-use Rattle.gixobj_walks.proofs.walk.unread.Goals as goal
+use Rattle.gixobj_walks.proofs.known.unread.Goals as goal
 
 pub loop-preserved : goal.loop-preserved
 loop-preserved c = record {

@@ -2,7 +2,7 @@
 use Rattle.std.proofs.Common.{◌≡◌, ◌∙◌, ◌+◌, ◌-◌, ◌<◌, arith, drop, length, subst, sym}
 use Rattle.gixobj_walks_marks.specs.Marks.{HasMarks}
 use Rattle.gixobj_walks.proofs.Starts.{marks_from_index}
-use Rattle.gixobj_walks.proofs.walk.mark_left.Goals as goal
+use Rattle.gixobj_walks.proofs.known.mark_left.Goals as goal
 
 pub loop-index-preserved : goal.loop-index-preserved
 loop-index-preserved c =
