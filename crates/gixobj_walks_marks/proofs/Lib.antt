@@ -1,5 +1,6 @@
 pub mod Bottoms
 pub mod Ends
+mod FromStart
 pub mod Kept
 pub mod Marked
 pub mod Paths

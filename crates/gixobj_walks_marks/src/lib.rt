@@ -7,12 +7,14 @@ mod chosen;
 mod marking;
 mod passing;
 mod queue;
+mod reached;
 mod reading;
 mod settled;
 mod settled_bases;
 
 pub use bases::{candidates, selected};
 pub use marking::mark_reached;
+pub use reached::reachable;
 pub use reading::Reading;
 pub use settled::is_settled_walk;
 pub use settled_bases::is_settled_bases;
