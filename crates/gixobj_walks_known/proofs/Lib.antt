@@ -1,0 +1,3 @@
+mod Candidates
+mod Listed
+mod Marks
