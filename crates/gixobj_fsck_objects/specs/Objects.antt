@@ -1,6 +1,6 @@
 -- What git accepts: objects of which no message counts as an error (git-fsck; git-config, `receive.fsckObjects`).
 use Rattle.std.specs.Prelude.{◌≡◌, ℕ, Bool, true, IsTrue, List, [], ⊤}
-use Rattle.gixobj_fsck.specs.Commits.{IsAcceptedCommit}
+use Rattle.gixobj_fsck.specs.Commits.{HasCommitMessage, IsAcceptedCommit}
 use Rattle.gixobj_fsck_findings.specs.CommitChecks.{AreCommitFindings}
 use Rattle.gixobj_fsck_findings.specs.Parser.{IsParsedCommit, IsParsedTag}
 use Rattle.gixobj_fsck_findings.specs.TagChecks.{AreTagFindings}
@@ -9,8 +9,8 @@ use Rattle.gixobj_fsck_messages.specs.Severities.{counts_as_error, severity_of}
 use Rattle.gixobj_fsck_messages.specs.declared.message.Message.{Message}
 use Rattle.gixobj_fsck_messages.specs.declared.finding.Finding.{Finding}
 use Rattle.gixobj_fsck_messages.specs.declared.options.Options.{Options}
-use Rattle.gixobj_fsck_tags.specs.Tags.{IsAcceptedTag}
-use Rattle.gixobj_fsck_tree_findings.specs.TreeFindings.{AreTreeFindings}
+use Rattle.gixobj_fsck_tags.specs.Tags.{HasTagMessage, IsAcceptedTag}
+use Rattle.gixobj_fsck_tree_findings.specs.TreeFindings.{AllocatesFindings, AreTreeFindings}
 use Rattle.gixobj_fsck_trees.specs.RawEntries.{BeginsWithSomeRawEntry, RawEntryView, ReadsTree}
 use Rattle.gixobj_fsck_trees.specs.TreeMessages.{ReportsOfTree}
 use Rattle.gixobj_hash.specs.Runs.{Ending}
@@ -56,3 +56,11 @@ MayAllocate object_kind.Tree kind bytes = BeginsWithSomeRawEntry kind bytes
 MayAllocate object_kind.Blob kind bytes = ⊥
 MayAllocate object_kind.Commit kind bytes = ⊥
 MayAllocate object_kind.Tag kind bytes = ⊥
+
+-- the findings about the object may allocate: it is a tree that begins with an entry or of which `badTree` is reported;
+-- or a commit or a tag about which git has a message, or a tag with an extra header
+abbrev pub MayAllocateFindings : Options → object.Kind → Kind → List ℕ → Type 0
+MayAllocateFindings options object_kind.Tree kind bytes = AllocatesFindings kind options bytes
+MayAllocateFindings options object_kind.Blob kind bytes = ⊥
+MayAllocateFindings options object_kind.Commit kind bytes = HasCommitMessage kind bytes
+MayAllocateFindings options object_kind.Tag kind bytes = HasTagMessage kind bytes

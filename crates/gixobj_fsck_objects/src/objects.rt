@@ -1,7 +1,7 @@
 //! The verdict about an object.
 ghost use Rattle.std.specs.Prelude.{◌↔◌, IfOk, IsTrue, OnErr, true};
 ghost use Rattle.gixobj_fsck_objects.specs.Objects.{AreFindings, IsAcceptedObject, IsAcceptedTree, IsReceivedObject};
-ghost use Rattle.gixobj_fsck_objects.specs.Objects.{MayAllocate};
+ghost use Rattle.gixobj_fsck_objects.specs.Objects.{MayAllocate, MayAllocateFindings};
 ghost use Rattle.gixobj_fsck.specs.Commits.{IsAcceptedCommit};
 ghost use Rattle.gixobj_fsck_findings.specs.Parser.{IsParsedCommit, IsParsedTag};
 ghost use Rattle.gixobj_fsck_tags.specs.Tags.{IsAcceptedTag};
@@ -24,7 +24,11 @@ use std::alloc::{AllocError, Global};
 ///
 /// # Errors
 ///
-/// [`AllocError`] if an allocation failed.
+/// [`AllocError`] if an allocation failed, only for:
+///
+/// - a tree that begins with an entry, or of which `badTree` is reported,
+/// - a commit about which git has a message,
+/// - a tag about which git has a message, or with an extra header.
 pub fn fsck(
     alloc: Global,
     kind: ObjectKind,
@@ -32,7 +36,8 @@ pub fn fsck(
     content: &[u8],
     options: &Options,
 ) -> Result<Vec<Finding>, AllocError>
-    ensures { IfOk result (λ it. AreFindings options.now kind hash_kind content.now it.items) }
+    ensures found { IfOk result (λ it. AreFindings options.now kind hash_kind content.now it.items) }
+    ensures error { OnErr result (MayAllocateFindings options.now kind hash_kind content.now) }
 {
     match kind {
         ObjectKind::Tree => fsck_tree(alloc, content, hash_kind, options),
