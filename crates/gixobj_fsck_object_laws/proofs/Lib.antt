@@ -1,0 +1,3 @@
+pub mod ActorLines
+pub mod CleanCommits
+pub mod CleanTags

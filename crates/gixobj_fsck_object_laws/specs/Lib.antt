@@ -1,0 +1,2 @@
+pub mod CleanCommits
+pub mod CleanTags

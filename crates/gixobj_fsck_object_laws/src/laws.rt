@@ -1,0 +1,45 @@
+//! Laws of git's messages about commits and tags. The contract of each function is the law.
+ghost use Rattle.std.specs.Prelude.{List, ℕ};
+ghost use Rattle.gixobj_fsck_messages.specs.Options.{severity_by};
+ghost use Rattle.gixobj_fsck_object_laws.specs.CleanCommits.{DecodesIfPlain, HasPeopleIfClean, IsCleanIfNotFound};
+ghost use Rattle.gixobj_fsck_object_laws.specs.CleanTags.{DecodesIfClean, DecodesIfNotFound};
+ghost use Rattle.gixobj_hash.specs.declared.hash.kind.Kind.{Kind as KindType};
+
+use gixobj_fsck::is_clean_commit;
+use gixobj_fsck_messages::Options;
+use gixobj_fsck_tags::is_clean_tag;
+use gixobj_hash::hash::Kind;
+
+/// A tag decodes if git has no message about it, not even `extraHeaderEntry`.
+pub fn clean_tag_decodes()
+    ensures { (kind : KindType) (tag : List ℕ) → DecodesIfClean kind tag }
+{}
+
+/// In a check without overrides a tag without findings decodes, if it has no extra header.
+///
+/// Git doesn't report an extra header, and with one the tag doesn't decode.
+pub fn tag_without_findings_decodes(kind: Kind, tag: &[u8], options: &Options, strict: bool)
+    ensures { DecodesIfNotFound strict (severity_by options.now) kind tag.now }
+{
+    let _ = is_clean_tag(kind, tag);
+}
+
+/// A commit about which git has no message has the lines of a tree, of parents, of an author and of a committer.
+pub fn clean_commit_has_people()
+    ensures { (kind : KindType) (commit : List ℕ) → HasPeopleIfClean kind commit }
+{}
+
+/// A commit about which git has no message decodes if and only if its times are plain, and headers, an empty line and
+/// a message follow the committer.
+///
+/// A time is plain without a vertical tab, a form feed and a carriage return.
+pub fn clean_commit_decodes_if_plain()
+    ensures { (kind : KindType) (commit : List ℕ) → DecodesIfPlain kind commit }
+{}
+
+/// In a check without overrides git has no message about a commit without findings.
+pub fn commit_without_findings_is_clean(kind: Kind, commit: &[u8], options: &Options, strict: bool)
+    ensures { IsCleanIfNotFound strict (severity_by options.now) kind commit.now }
+{
+    let _ = is_clean_commit(kind, commit);
+}
