@@ -1,2 +1,3 @@
 pub mod CleanCommits
 pub mod CleanTags
+pub mod Reported

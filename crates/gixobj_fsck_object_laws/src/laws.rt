@@ -3,6 +3,7 @@ ghost use Rattle.std.specs.Prelude.{List, ℕ};
 ghost use Rattle.gixobj_fsck_messages.specs.Options.{severity_by};
 ghost use Rattle.gixobj_fsck_object_laws.specs.CleanCommits.{DecodesIfPlain, HasPeopleIfClean, IsCleanIfNotFound};
 ghost use Rattle.gixobj_fsck_object_laws.specs.CleanTags.{DecodesIfClean, DecodesIfNotFound};
+ghost use Rattle.gixobj_fsck_object_laws.specs.Reported.{HaveMessagesOfCommits, HaveMessagesOfTags};
 ghost use Rattle.gixobj_hash.specs.declared.hash.kind.Kind.{Kind as KindType};
 
 use gixobj_fsck::is_clean_commit;
@@ -43,3 +44,14 @@ pub fn commit_without_findings_is_clean(kind: Kind, commit: &[u8], options: &Opt
 {
     let _ = is_clean_commit(kind, commit);
 }
+
+/// The findings about a commit have messages about commits alone, whatever the options.
+pub fn commit_findings_are_about_commits(kind: Kind, commit: &[u8], options: &Options)
+    ensures { HaveMessagesOfCommits (severity_by options.now) kind commit.now }
+{}
+
+/// The findings about a tag have messages about tags alone, whatever the options: never `missingType`, `missingTag`
+/// or `unknownType`.
+pub fn tag_findings_are_about_tags(kind: Kind, tag: &[u8], options: &Options)
+    ensures { HaveMessagesOfTags (severity_by options.now) kind tag.now }
+{}
