@@ -5,3 +5,4 @@ pub mod CleanCommits
 pub mod CleanTags
 pub mod Ended
 pub mod Kept
+pub mod Unreported

@@ -1,3 +1,4 @@
 pub mod CleanCommits
 pub mod CleanTags
 pub mod Reported
+pub mod Unreported

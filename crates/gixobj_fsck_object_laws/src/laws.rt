@@ -4,11 +4,14 @@ ghost use Rattle.gixobj_fsck_messages.specs.Options.{severity_by};
 ghost use Rattle.gixobj_fsck_object_laws.specs.CleanCommits.{DecodesIfPlain, HasPeopleIfClean, IsCleanIfNotFound};
 ghost use Rattle.gixobj_fsck_object_laws.specs.CleanTags.{DecodesIfClean, DecodesIfNotFound};
 ghost use Rattle.gixobj_fsck_object_laws.specs.Reported.{HaveMessagesOfCommits, HaveMessagesOfTags};
+ghost use Rattle.gixobj_fsck_object_laws.specs.Unreported.{HaveNoUnreported};
 ghost use Rattle.gixobj_hash.specs.declared.hash.kind.Kind.{Kind as KindType};
 
 use gixobj_fsck::is_clean_commit;
 use gixobj_fsck_messages::Options;
 use gixobj_fsck_tags::is_clean_tag;
+use gixobj_fsck_tree_findings::laws::tree_findings_are_about_trees;
+use gixobj_hash::Kind as ObjectKind;
 use gixobj_hash::hash::Kind;
 
 /// A tag decodes if git has no message about it, not even `extraHeaderEntry`.
@@ -55,3 +58,15 @@ pub fn commit_findings_are_about_commits(kind: Kind, commit: &[u8], options: &Op
 pub fn tag_findings_are_about_tags(kind: Kind, tag: &[u8], options: &Options)
     ensures { HaveMessagesOfTags (severity_by options.now) kind tag.now }
 {}
+
+/// No finding about an object is `emptyName`, `missingType`, `missingTag` or `unknownType`, whatever the options.
+pub fn findings_have_no_unreported(
+    kind: ObjectKind,
+    hash_kind: Kind,
+    content: &[u8],
+    options: &Options,
+)
+    ensures { HaveNoUnreported options.now kind hash_kind content.now }
+{
+    tree_findings_are_about_trees(content, hash_kind, options);
+}
