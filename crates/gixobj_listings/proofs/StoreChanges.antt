@@ -12,7 +12,7 @@ use Rattle.gix_object.specs.Tables.{AgreesWithStore}
 use Rattle.gix_object.specs.hash.hash.object_id.ObjectId.{ObjectId}
 use Rattle.gixobj_listings.proofs.ChangesOfPairs.{HasTreeIfDirectory, change_of_pairs_iff}
 use Rattle.gixobj_listings.proofs.EntryPairs.{IsAmongPairs}
-use Rattle.gixobj_listings.proofs.Histories.{same_files_refl}
+use Rattle.gix_object.proofs.Files.{same_files_refl}
 use Rattle.gixobj_listings.proofs.PairChanges.{are_changes_congruent, changes_of_additions, changes_of_directories, changes_of_removals, changes_of_two_files}
 use Rattle.gixobj_listings.proofs.PairChanges.{files_of_side_unless_null, no_changes_of_equal_entries, no_changes_of_same_files}
 use Rattle.gixobj_listings.proofs.Rooted.{root_named, root_there}

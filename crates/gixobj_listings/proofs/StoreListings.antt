@@ -12,7 +12,7 @@ use Rattle.gix_object.specs.Stores.{Objects}
 use Rattle.gix_object.specs.Tables.{AgreesWithStore}
 use Rattle.gix_object.specs.hash.hash.object_id.ObjectId.{ObjectId}
 use Rattle.gixobj_listings.proofs.FileListings.{lists_files_of_directory, lists_nil_at_null, lists_one_file_of_no_tree, lists_take_snoc}
-use Rattle.gixobj_listings.proofs.Histories.{same_files_trans}
+use Rattle.gix_object.proofs.Files.{same_files_trans}
 use Rattle.gixobj_listings.proofs.Rooted.{root_named}
 use Rattle.gixobj_listings.proofs.Unread.{has_tree_of_read}
 use Rattle.gixobj_listings.specs.FileLists.{FileView, IsBounded, Lists, with_first_name}

@@ -1,9 +1,11 @@
 -- Roots: the trees that a store has, by their ids.
-use Rattle.std.specs.Prelude.{◌≡◌, ◌≢◌, Bool, List, []}
+use Rattle.std.specs.Prelude.{◌≡◌, ◌≢◌, ℕ, Bool, IsFalse, List, []}
 use Rattle.gix_object.specs.Entries.{EntryView}
 use Rattle.gix_object.specs.WellFormed.{IsWellFormed}
 use Rattle.gix_object.specs.Stores.{Objects}
-use Rattle.gix_object.specs.Openings.{NamesIllFormedTree, NamesTree}
+use Rattle.gix_object.specs.Files.{Files, NamedFiles, SameFiles, Table, Trees, is_null}
+use Rattle.gix_object.specs.Openings.{AreTreesOf, NamesIllFormedTree, NamesTree}
+use Rattle.gix_object.specs.Tables.{AgreesWithStore}
 use Rattle.gix_object.specs.Existing.{IsEmptyId, NamesSuch, IsFindObjectError}
 use Rattle.gix_object.specs.TreeDecoding.{DecodesToTree}
 use Rattle.gix_object.specs.hash.hash.object_id.ObjectId.{ObjectId}
@@ -16,6 +18,12 @@ pub record IsRoot (objects : Objects) (id : ObjectId) (entries : List EntryView)
   pub well_formed : IsWellFormed entries
   pub empty : IsEmptyId Tree id → entries ≡ []
   pub stored : (¬ IsEmptyId Tree id) → NamesTree objects id entries
+
+-- the files of a root are those that a table has by its id, if the table agrees with the store and the id isn't null
+abbrev pub StoredRootHasFiles : Type 0
+StoredRootHasFiles = (objects : Objects) (trees : Trees) → AreTreesOf objects trees → (T : Table)
+    → AgreesWithStore T trees → (id : ObjectId) (entries : List EntryView) → IsFalse (is_null id)
+    → IsRoot objects id entries → (n : ℕ) → SameFiles (Files T n entries) (NamedFiles T n id)
 
 -- the id names a tree that has entries
 abbrev pub NamesFilled : Objects → ObjectId → Type 0

@@ -1,6 +1,6 @@
 use Rattle.gix_object.specs.Files.{NamedFiles}
 use Rattle.gix_object.specs.History.{FilesAfter}
-use Rattle.gixobj_listings.proofs.Histories.{same_files_refl}
+use Rattle.gix_object.proofs.Files.{same_files_refl}
 use Rattle.gixobj_listings.proofs.PairChanges.{are_changes_congruent}
 use Rattle.gixobj_listings.proofs.laws.tree_changes_are_step_changes.Goals as goal
 
