@@ -23,8 +23,8 @@ use Rattle.gix_object.specs.editor.reply.EditReply.{EditReply}
 use Rattle.gix_object.specs.editor.reply.EditReply.TheVariants as edit_reply
 use Rattle.gixobj_examples_edits.specs.Imports.{AreEditsDone, Decides, HasWriteReply, import_steps}
 use Rattle.gixobj_examples_edits.proofs.RootsAlone.{root_alone_files}
-use Rattle.gixobj_listings.proofs.Rooted.{agrees_with_store_of_objects, tree_at_last_pair}
-use Rattle.gixobj_listings.proofs.Histories.{history_append, history_congruent, same_files_refl, same_files_sym, same_files_trans}
+use Rattle.gix_object.proofs.Tables.{agrees_with_store_of_objects, tree_at_last_pair}
+use Rattle.gix_object.proofs.Files.{history_append, history_congruent, same_files_refl, same_files_sym, same_files_trans}
 
 -- by the law that every store names trees
 module _ {S E : Type 0} (model : StoreModel S) (answers : Answers E) (trees_of : (objects : Objects) → (trees : Trees) × AreTreesOf objects trees) where

@@ -20,7 +20,7 @@ use Rattle.gix_object.specs.hash.hash.kind.Kind.{Kind}
 use Rattle.gixobj_examples_edits.specs.Checkouts.{AreNotInserted, AreInserted, IsCheckedOut, IsFilled, IsMade, IsNotFilled, IsNotInsertedAt, IsInsertedAt}
 use Rattle.gixobj_examples_edits.specs.Checkouts.{insert_at, steps_of_checkout}
 use Rattle.gixobj_examples_edits.specs.declared.checkout.Planned.{Planned}
-use Rattle.gixobj_listings.proofs.Histories.{history_congruent, same_files_refl, same_files_trans}
+use Rattle.gix_object.proofs.Files.{history_congruent, same_files_refl, same_files_trans}
 use Rattle.gix_object.specs.Stores.{StoreModel}
 
 module _ {S : Type 0} (model : StoreModel S) (prefix : Path) where

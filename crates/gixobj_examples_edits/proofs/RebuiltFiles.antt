@@ -18,7 +18,7 @@ use Rattle.gix_object.specs.commands.command.Command.{Command}
 use Rattle.gix_object.specs.editor.reply.Reply.{Reply}
 use Rattle.gix_object.specs.hash.hash.kind.Kind.{Kind}
 use Rattle.gix_object.specs.hash.hash.object_id.ObjectId.{ObjectId}
-use Rattle.gixobj_listings.proofs.Histories.{history_congruent, same_files_trans}
+use Rattle.gix_object.proofs.Files.{history_congruent, same_files_trans}
 use Rattle.gixobj_examples_edits.proofs.Rebuilt.{replied}
 use Rattle.gixobj_examples_edits.specs.Rebuilds.{HasFilesInTable, IsConsistentRun, IsRebuildError, IsRebuilt, NamesWritten}
 use Rattle.gixobj_examples_edits.specs.declared.rebuilder.CompareError.{CompareError}

@@ -12,10 +12,11 @@ ghost use Rattle.gix_object.specs.Stores.{store_model};
 
 use bstr::BString;
 use gix_object::hash::{Kind, ObjectId};
-use gix_object::laws::{consumed_entries_are_prefix, id_equality_is_decidable, tree_readers_agree};
+use gix_object::laws::{consumed_entries_are_prefix, tree_readers_agree};
 use gix_object::tree::EntryKind;
 use gix_object::tree::editor::{Editor, Error, WriteError, Written};
 use gix_object::{Find, Tree, TreeRefIter};
+use gixobj_listings::laws::stored_root_has_files;
 pub use gixobj_listings::roots::{RootError, root_in};
 use std::alloc::Global;
 use std::fmt::Display;
@@ -86,7 +87,7 @@ pub fn with_entry_in_stored<S: Find + Drop, E: Drop, F: FnMut(&Tree) -> Result<O
     ensures error { IfErr result (IsPlanError (store_model S.objects S.may_fail) store root
         (names_of path.now) (mode_of_kind kind) id (answered F.FnMut) (denied F.FnMut) out) }
 {
-    id_equality_is_decidable();
+    stored_root_has_files();
     let tree = match root_in(alloc, &store, root) {
         Ok(tree) => tree,
         Err(error) => return Err(PlanError::Root(error)),

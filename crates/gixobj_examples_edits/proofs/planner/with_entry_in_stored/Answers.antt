@@ -23,7 +23,7 @@ returns-in-Ok-write-clause-files g c =
     let (last, wrote) = (c.in-Ok-write.ensures {u = tt}).written in
     planned_files model c.args.store c.args.root (names_of c.args.path.now) (mode_of_kind c.args.kind) c.args.id c.new-editor.result c.in-Ok.tree
     (c.in-Ok.ensures {u = tt}).found begun new.has_bases new.files
-    c.id_equality_is_decidable.ensures _ c.args.out last c.try_upsert.new.self c.write.new.self c.in-Ok-write.written
+    c.stored_root_has_files.ensures _ c.args.out last c.try_upsert.new.self c.write.new.self c.in-Ok-write.written
     (c.in_default.ensures {u = tt}).upserted wrote
 
 pub returns-in-Ok-write-clause-written : goal.returns-in-Ok-write-clause-written
