@@ -4,14 +4,14 @@ use Rattle.std.proofs.Common.{◌∙◌, arith}
 use Rattle.std.specs.Prelude.{MatchOption}
 use Rattle.std.specs.List.{AllByRecursion}
 use Rattle.std.proofs.lemmas.List.Elements.{Contains-append_left, Contains-append_right}
-use Rattle.gixobj_editor_files.proofs.Canonical.{IsBuilt, built}
-use Rattle.gixobj_editor_files.proofs.Plain.{IsOfPair, RestsOn, all_joined, is_built_of_rests_on}
+use Rattle.gix_object.specs.BuiltTrees.{IsBuilt, IsClean, built}
 use Rattle.gix_object.specs.Entries.{EntryView, Pair}
 use Rattle.gix_object.specs.Files.{ContainsEntry, Table, Trees}
 use Rattle.gix_object.specs.Hash.{id_kind}
 use Rattle.gix_object.specs.Mode.{is_tree_mode, tree_type}
 use Rattle.gix_object.specs.Tables.{AgreesWithStore}
 use Rattle.gix_object.specs.hash.hash.kind.Kind.{Kind}
+use Rattle.gix_object.specs.hash.hash.object_id.ObjectId.{ObjectId}
 use Rattle.gixobj_examples_audits.specs.Canonical.{IsCanonicalTree, IsCanonicalEntry, IsPlainDirectory, NamesFilledTree}
 
 -- an option with a property has a value with it
@@ -25,8 +25,29 @@ all_of_contains P [] all e h = absurd h
 all_of_contains P (x ∷ es) all e (inl same) = subst P same all.0
 all_of_contains P (x ∷ es) all e (inr h) = all_of_contains P es all.1 e h
 
+-- what all of two lists have, all of the appended lists have
+pub all_joined : (P : Pair → Type 0) (xs ys : List Pair) → AllByRecursion P xs → AllByRecursion P ys → AllByRecursion P (xs ++ ys)
+all_joined P [] ys h k = k
+all_joined P (x ∷ xs) ys h k = (h.0, all_joined P xs ys h.1 k)
+
 Contains-head : (x : Pair) (xs : List Pair) → Contains (x ∷ xs) x
 Contains-head x xs = (zero, omega arith, refl)
+
+-- the id is that of a pair whose tree is built and isn't empty
+record IsOfPair (pairs : List Pair) (id : ObjectId) : Type 0 where
+  tree : List EntryView
+  filled : tree ≢ []
+  named : Contains pairs (id, tree)
+  is_built : IsBuilt pairs tree
+
+-- each directory of the entries has the mode 040000 and the id of a pair
+abbrev RestsOn : List Pair → List EntryView → Type 0
+RestsOn pairs entries = (e : EntryView) → ContainsEntry entries e → is_tree_mode e.mode ≡ true → (e.mode ≡ tree_type) × IsOfPair pairs e.id
+
+is_built_of_rests_on : (pairs : List Pair) (entries : List EntryView) → IsClean entries → RestsOn pairs entries → IsBuilt pairs entries
+is_built_of_rests_on pairs entries clean rests =
+    built entries clean (λ e h t. (rests e h t).0) (λ e h t. (rests e h t).1.tree) (λ e h t. (rests e h t).1.filled) (λ e h t. (rests e h t).1.named)
+    (λ e h t. (rests e h t).1.is_built)
 
 -- a tree that is built from pairs is built from more
 abbrev Within : List Pair → List Pair → Type 0

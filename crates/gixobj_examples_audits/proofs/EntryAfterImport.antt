@@ -1,5 +1,5 @@
 -- The entry that a lookup finds in the tree of the last commit is the file that the steps made; the proof of `entry_after_import` uses it.
-use Rattle.std.proofs.Common.{◌≡◌, ◌≢◌, ◌<◌, ◌↔◌, ◌⊎◌, ◌∙◌, ◌++◌, ◌∷◌, ℕ, suc, [], Err, List, None, Ok, Option, Result, Some, ap, arith, inl, inr, length, refl}
+use Rattle.std.proofs.Common.{◌≡◌, ◌<◌, ◌↔◌, ◌∙◌, ◌++◌, ◌∷◌, ℕ, suc, [], Err, List, None, Ok, Option, Result, Some, ap, arith, inl, inr, length, refl}
 use Rattle.std.proofs.Common.{subst, sym}
 use Rattle.std.proofs.lemmas.Bool.{false≢true}
 use Rattle.std.proofs.lemmas.List.{length-append, take_all}
@@ -10,12 +10,15 @@ use Rattle.gix_object.specs.Files.{Files, NamedFiles, SameFiles, Table, Trees}
 use Rattle.gix_object.specs.Hash.{id_kind}
 use Rattle.gix_object.specs.History.{FilesAfter}
 use Rattle.gix_object.specs.Imports.{AgreesWithImports, HaveFilesOfNothing, edits_of}
+use Rattle.gix_object.specs.LookedUp.{IsFileIn, IsLookedUp}
 use Rattle.gix_object.specs.Lookups.{IsAtPath, LeadsTo, Name, remaining_tree}
 use Rattle.gix_object.specs.Openings.{AreTreesOf}
 use Rattle.gix_object.specs.PlainHistory.{NoFiles}
 use Rattle.gix_object.specs.Steps.{AreImported}
 use Rattle.gix_object.specs.Stores.{Objects, StoreModel, StoredObject}
 use Rattle.gix_object.specs.Tables.{IsNeverLookedUp, IsTableOfStore}
+use Rattle.gix_object.specs.TreeDecoding.{DecodesToTree}
+use Rattle.gix_object.specs.WellFormed.{IsWellFormed}
 use Rattle.gix_object.specs.hash.hash.kind.Kind.{Kind}
 use Rattle.gix_object.specs.hash.hash.object_id.ObjectId.{ObjectId}
 use Rattle.gix_object.specs.hash.kind.Kind.TheVariants.{Tree}
@@ -23,7 +26,7 @@ use Rattle.gix_object.specs.import.import.Imported.{Imported}
 use Rattle.gix_object.specs.import.import.Importer.{Importer}
 use Rattle.gix_object.specs.import.import.Step.{Step}
 use Rattle.gix_object.specs.store.tree.TreeRefIter.{TreeRefIter}
-use Rattle.gixobj_examples_audits.proofs.PathEntries.{leads_to_unique, looked_up_of_file, no_file_in_nil}
+use Rattle.gixobj_examples_audits.proofs.PathEntries.{no_file_in_nil}
 use Rattle.gixobj_examples_audits.specs.Imports.{IsEntryAfterImport, IsFoundIn, IsFoundInError, IsImportOf, IsLookupError}
 use Rattle.gixobj_examples_audits.specs.declared.imports.LookupError.{LookupError}
 use Rattle.gixobj_examples_audits.specs.declared.imports.LookupError.TheVariants as lookup
@@ -92,36 +95,47 @@ named_file T n root names mode id file = at_root (T.tree_at root) refl file
     at_root None there file = absurd file
     at_root (Some entries) there file = record { entries = entries; there = there; file = file; searched = not_never entries there file }
 
+-- the laws of the crate that a path leads to at most one entry, and that a file is found by a lookup of its path
+abbrev OneEntry : Type 0
+OneEntry = (objects : Objects) (first : Option StoredObject) (names : List Name) (e other : EntryView) → LeadsTo objects first names e
+    → LeadsTo objects first names other → e ≡ other
+
+abbrev FilesAreLookedUp : Type 0
+FilesAreLookedUp = (objects : Objects) (trees : Trees) → AreTreesOf objects trees → (T : Table) → IsTableOfStore T trees
+    → (kind : Kind) (bytes : List ℕ) (root : List EntryView) → DecodesToTree kind bytes root → IsWellFormed root
+    → (n : ℕ) (names : List Name) (mode : ℕ) (id : ObjectId) → Files T n root names mode id
+    → (e : EntryView) × IsLookedUp objects kind bytes names e × IsFileIn T e × (e.mode ≡ mode) × (e.id ≡ id)
+
 -- the entry at the end of a lookup is the only one to which its names lead
-entry_of_found : (objects : Objects) (tree : StoredObject) (names : List Name) (e : EntryView) (found : Option EntryView) (mode : ℕ) (id : ObjectId)
+entry_of_found : OneEntry → (objects : Objects) (tree : StoredObject) (names : List Name) (e : EntryView) (found : Option EntryView) (mode : ℕ) (id : ObjectId)
     → LeadsTo objects (Some tree) names e → e.mode ≡ mode → e.id ≡ id → IsAtPath objects (Some tree) names found
     → IsSomeAnd found (λ x. (x.mode ≡ mode) × (x.id ≡ id))
-entry_of_found objects tree names e None mode id leads its_mode its_id none = absurd (none e leads)
-entry_of_found objects tree names e (Some other) mode id leads its_mode its_id led =
-    let same = leads_to_unique objects (Some tree) names e other leads led in
+entry_of_found one_entry objects tree names e None mode id leads its_mode its_id none = absurd (none e leads)
+entry_of_found one_entry objects tree names e (Some other) mode id leads its_mode its_id led =
+    let same = one_entry objects (Some tree) names e other leads led in
     (ap (λ (x : EntryView). x.mode) (sym same) ∙ its_mode, ap (λ (x : EntryView). x.id) (sym same) ∙ its_id)
 
 -- a file of a stored tree is found by the lookup of its path
-pub found_of_named_file : ((x y : ObjectId) → (x ≡ y) ⊎ (x ≢ y)) → (objects : Objects) (trees : Trees) → AreTreesOf objects trees
+found_of_named_file : OneEntry → FilesAreLookedUp → (objects : Objects) (trees : Trees) → AreTreesOf objects trees
     → (T : Table) → IsTableOfStore T trees → (n : ℕ) (root : ObjectId) (names : List Name) (mode : ℕ) (id : ObjectId)
     → NamedFiles T n root names mode id → (found : Option EntryView) → IsFoundIn objects root names found
     → IsSomeAnd found (λ e. (e.mode ≡ mode) × (e.id ≡ id))
-found_of_named_file same_or_not objects trees fits T own n root names mode id file found (tree, named_so, kind, at) =
+found_of_named_file one_entry looked_up objects trees fits T own n root names mode id file found (tree, named_so, kind, at) =
     let it = named_file T n root names mode id file in
     let ((kept, kept_so, kept_kind, decodes), well_formed) = (fits root it.entries).0 (sym (own root it.searched) ∙ it.there) in
     let both : Some kept ≡ Some tree = sym kept_so ∙ named_so in
     let same : kept ≡ tree = cc both in
-    let (e, (before, way, directories), is_file, its_mode, its_id) = looked_up_of_file same_or_not objects trees fits T own kept.object_hash kept.bytes
+    let (e, (before, way, directories), is_file, its_mode, its_id) = looked_up objects trees fits T own kept.object_hash kept.bytes
     it.entries decodes well_formed n names mode id it.file in
     let entire : record { kind = Tree; object_hash = kept.object_hash; bytes = kept.bytes } ≡ kept =
     λ i. record { kind = sym kept_kind i; object_hash = kept.object_hash; bytes = kept.bytes } in
     let leads : LeadsTo objects (Some tree) names e = subst (λ (o : StoredObject). LeadsTo objects (Some o) names e) (entire ∙ same) (before, way) in
-    entry_of_found objects tree names e found mode id leads its_mode its_id at
+    entry_of_found one_entry objects tree names e found mode id leads its_mode its_id at
 
 -- ---- the entry after an import
 
 module _ {S : Type 0} (model : StoreModel S) (store : S) (hash : Kind) (steps : List Step) (names : List Name)
-    (same_or_not : (x y : ObjectId) → (x ≡ y) ⊎ (x ≢ y)) (imported : List Imported) (done : IsImportOf model store hash steps imported)
+    (one_entry : OneEntry) (looked_up : FilesAreLookedUp) (imported : List Imported) (done : IsImportOf model store hash steps imported)
     (files : HaveFilesOfNothing (model.objects store) steps imported) where
   pub entry_of_last : (before : List Imported) (last : Imported) (found : Option EntryView) → imported ≡ before ++ last ∷ []
       → IsFoundIn (model.objects done.after.editor.store) last.written.id names found
@@ -136,7 +150,7 @@ module _ {S : Type 0} (model : StoreModel S) (store : S) (hash : Kind) (steps : 
     entry = λ trees fits T n mode id own agrees file.
         let one_each = imported_lengths model done.start done.after steps imported done.imported_steps in
         let its_file = (files_of_last (model.objects store) steps imported before last is one_each files T n agrees names mode id).1 file in
-        found_of_named_file same_or_not (model.objects done.after.editor.store) trees fits T own n last.written.id names mode id its_file found there;
+        found_of_named_file one_entry looked_up (model.objects done.after.editor.store) trees fits T own n last.written.id names mode id its_file found there;
   }
     where
       not_nil : (before : List Imported) (last : Imported) → [] ≡ before ++ last ∷ [] → ⊥

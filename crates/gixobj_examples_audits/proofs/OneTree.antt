@@ -1,12 +1,10 @@
 -- Canonical roots of two stores have equal ids if and only if they have the same files; the law
--- `equal_files_have_equal_ids` uses it.
+-- `equal_files_have_equal_ids` uses it. Both laws of the parameters are those of `gix_object`.
 use Rattle.std.proofs.Common.{◌≡◌, ◌≢◌, ◌↔◌, inl, inr, ℕ, zero, suc, true, false, List, [], ◌∷◌, ◌++◌, Option, Some, None, refl, sym, ap, subst, ◌∙◌}
 use Rattle.std.specs.Prelude.{MatchOption}
 use Rattle.std.proofs.lemmas.List.Elements.{All-contains, All-from_recursion, Contains-append_left, Contains-append_right}
-use Rattle.gixobj_editor_files.proofs.Canonical.{same_trees}
-use Rattle.gixobj_editor_files.proofs.EditedFiles.{same_files_sym, same_files_trans}
-use Rattle.gixobj_editor_files.proofs.OpenedFiles.{files_below_of_table}
-use Rattle.gixobj_editor_files.proofs.Plain.{all_joined}
+use Rattle.gix_object.proofs.Files.{same_files_sym, same_files_trans}
+use Rattle.gix_object.specs.BuiltTrees.{BuiltTreesAreUnique, DirectoryHasFilesOfTree}
 use Rattle.gix_object.specs.Entries.{EntryView, Pair}
 use Rattle.gix_object.specs.Files.{Below, ContainsEntry, Files, NamedFiles, SameFiles, Table, Trees, resolves_to}
 use Rattle.gix_object.specs.Hash.{id_kind}
@@ -15,11 +13,11 @@ use Rattle.gix_object.specs.Tables.{AgreesWithPairs, AgreesWithStore, HasOneIdPe
 use Rattle.gix_object.specs.hash.hash.kind.Kind.{Kind}
 use Rattle.gix_object.specs.hash.hash.object_id.ObjectId.{ObjectId}
 use Rattle.gixobj_examples_audits.specs.Canonical.{AgreesWithBoth, IsCanonicalTree, IsCanonicalEntry, IsCanonicalRoot}
-use Rattle.gixobj_examples_audits.proofs.BuiltTrees.{IsBuiltOfKnown, all_of_contains, is_built_of_canonical, is_built_within, some_of_match}
+use Rattle.gixobj_examples_audits.proofs.BuiltTrees.{IsBuiltOfKnown, all_joined, all_of_contains, is_built_of_canonical, is_built_within, some_of_match}
 
 -- ---- the files of a canonical tree are the same in each table that agrees with its store
 
-module _ (T U : Table) where
+module _ (directory_has_files : DirectoryHasFilesOfTree) (T U : Table) where
   leaf_is_in_both : (k : ℕ) (mode : ℕ) (id : ObjectId) → is_tree_mode mode ≡ false → SameFiles (Below T (Files T k) mode id) (Below U (Files U k) mode id)
   leaf_is_in_both k m named leaf path mode id =
       let in_t : resolves_to T m named ≡ None = rw leaf refl in
@@ -36,10 +34,10 @@ module _ (T U : Table) where
           | true ↦ λ t.
               let it = some_of_match (trees e.id) (λ entries. (entries ≢ []) × IsIts entries) (is t).1.tree in
               same_files_trans (Below T (Files T k) e.mode e.id) (Files T k it.0) (Below U (Files U k) e.mode e.id)
-              (files_below_of_table T k e.mode e.id it.0 t (inr (in_t e.id it.0 (is t).1.looked_up it.1)))
+              (directory_has_files T k e.mode e.id it.0 t (in_t e.id it.0 (is t).1.looked_up it.1))
               (same_files_trans (Files T k it.0) (Files U k it.0) (Below U (Files U k) e.mode e.id) (deep it.0 it.2.1)
               (same_files_sym (Below U (Files U k) e.mode e.id) (Files U k it.0)
-              (files_below_of_table U k e.mode e.id it.0 t (inr (in_u e.id it.0 (is t).1.looked_up it.1)))))
+              (directory_has_files U k e.mode e.id it.0 t (in_u e.id it.0 (is t).1.looked_up it.1))))
           | false ↦ leaf_is_in_both k e.mode e.id
         ] refl
 
@@ -78,14 +76,16 @@ has_root_of_canonical trees hash n id (kind, inr is) =
     }
 
 -- the files of a root in a table that agrees with its store are those of its tree in any other
-module _ (T shared : Table) (trees : Trees) (hash : Kind) (id : ObjectId) (root : HasRoot trees hash id) where
+module _ (directory_has_files : DirectoryHasFilesOfTree) (T shared : Table) (trees : Trees) (hash : Kind) (id : ObjectId)
+    (root : HasRoot trees hash id) where
   root_files : AgreesWithStore T trees → AgreesWithStore shared trees → (k : ℕ) → SameFiles (NamedFiles T k id) (Files shared k root.tree)
   root_files in_t in_shared k =
       let At : Option (List EntryView) → Type 0 = λ o.
       SameFiles (λ path mode it. MatchOption o ⊥ (λ es. Files T k es path mode it)) (Files shared k root.tree) in
-      subst At (sym (root.named T in_t)) (canonical_files_are_in_both T shared trees hash in_t in_shared root.depth root.tree root.canonical k)
+      subst At (sym (root.named T in_t)) (canonical_files_are_in_both directory_has_files T shared trees hash in_t in_shared root.depth root.tree
+      root.canonical k)
 
-module _ (shared : Table) (trees others : Trees) (hash : Kind) (both : AgreesWithBoth shared trees others) where
+module _ (unique : BuiltTreesAreUnique) (shared : Table) (trees others : Trees) (hash : Kind) (both : AgreesWithBoth shared trees others) where
   -- canonical trees with the same files are equal
   canonical_trees_eq : (n m : ℕ) (xs ys : List EntryView) → IsCanonicalTree trees hash n xs → IsCanonicalTree others hash m ys
       → ((k : ℕ) → SameFiles (Files shared k xs) (Files shared k ys)) → xs ≡ ys
@@ -100,18 +100,21 @@ module _ (shared : Table) (trees others : Trees) (hash : Kind) (both : AgreesWit
       let of_x = All-contains Known pairs (x, tree) all h in
       let of_y = All-contains Known pairs (y, tree) all k in
       both.one_id tree x y (of_x.1 ∙ sym of_y.1) of_x.0 of_y.0 in
-      same_trees shared pairs known one_id
+      unique shared pairs known one_id
       xs (is_built_within one.0 pairs (λ pair h. Contains-append_left one.0 other.0 pair h) xs one.2)
       ys (is_built_within other.0 pairs (λ pair h. Contains-append_right one.0 other.0 pair h) ys other.2) same
 
-pub equal_ids_iff_same_files : (T U shared : Table) (trees others : Trees) (hash : Kind) (n m : ℕ) (x y : ObjectId) → AgreesWithStore T trees
-    → AgreesWithStore U others → AgreesWithBoth shared trees others → IsCanonicalRoot trees hash n x → IsCanonicalRoot others hash m y
+pub equal_ids_iff_same_files : BuiltTreesAreUnique → DirectoryHasFilesOfTree → (T U shared : Table) (trees others : Trees) (hash : Kind) (n m : ℕ)
+    (x y : ObjectId) → AgreesWithStore T trees → AgreesWithStore U others → AgreesWithBoth shared trees others → IsCanonicalRoot trees hash n x
+    → IsCanonicalRoot others hash m y
     → (x ≡ y) ↔ ((k : ℕ) → SameFiles (NamedFiles T k x) (NamedFiles U k y))
-equal_ids_iff_same_files T U shared trees others hash n m x y in_t in_u both cx cy =
+equal_ids_iff_same_files unique directory_has_files T U shared trees others hash n m x y in_t in_u both cx cy =
     let one = has_root_of_canonical trees hash n x cx in
     let other = has_root_of_canonical others hash m y cy in
-    let of_one : (k : ℕ) → SameFiles (NamedFiles T k x) (Files shared k one.tree) = root_files T shared trees hash x one in_t both.one_store in
-    let of_other : (k : ℕ) → SameFiles (NamedFiles U k y) (Files shared k other.tree) = root_files U shared others hash y other in_u both.other_store in
+    let of_one : (k : ℕ) → SameFiles (NamedFiles T k x) (Files shared k one.tree) =
+    root_files directory_has_files T shared trees hash x one in_t both.one_store in
+    let of_other : (k : ℕ) → SameFiles (NamedFiles U k y) (Files shared k other.tree) =
+    root_files directory_has_files U shared others hash y other in_u both.other_store in
     let known : shared.tree_at x ≡ Some one.tree = one.named shared both.one_store in
     let its : shared.tree_at y ≡ Some other.tree = other.named shared both.other_store in (
       (λ same k.
@@ -121,8 +124,8 @@ equal_ids_iff_same_files T U shared trees others hash n m x y in_t in_u both cx 
           (subst (λ (l : List EntryView). SameFiles (NamedFiles T k x) (Files shared k l)) trees_eq (of_one k))
           (same_files_sym (NamedFiles U k y) (Files shared k other.tree) (of_other k))),
       λ same.
-          let trees_eq : one.tree ≡ other.tree = canonical_trees_eq shared trees others hash both one.depth other.depth one.tree other.tree one.canonical
-          other.canonical (λ k. same_files_trans (Files shared k one.tree) (NamedFiles T k x) (Files shared k other.tree)
+          let trees_eq : one.tree ≡ other.tree = canonical_trees_eq unique shared trees others hash both one.depth other.depth one.tree other.tree
+          one.canonical other.canonical (λ k. same_files_trans (Files shared k one.tree) (NamedFiles T k x) (Files shared k other.tree)
           (same_files_sym (NamedFiles T k x) (Files shared k one.tree) (of_one k))
           (same_files_trans (NamedFiles T k x) (NamedFiles U k y) (Files shared k other.tree) (same k) (of_other k))) in
           both.one_id other.tree x y (cx.0 ∙ sym cy.0) (known ∙ ap Some trees_eq) its,

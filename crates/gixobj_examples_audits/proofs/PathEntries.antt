@@ -1,4 +1,5 @@
 -- Names lead to at most one entry, and those of a file of a stored tree lead to it; the laws on lookups use it.
+-- `gix_object`'s law of trees has it that an input begins with at most one entry.
 use Rattle.std.proofs.Common.{◌≡◌, ◌≢◌, ◌⊎◌, ◌∙◌, ◌++◌, ◌∷◌, ℕ, zero, suc, [], Bool, false, true, List, None, Option, Some, ⊎_elim, ap, inl, inr, refl, subst}
 use Rattle.std.proofs.Common.{sym}
 use Rattle.std.proofs.lemmas.List.Elements.{All-cons, All-head, All-nil, All-tail}
@@ -19,9 +20,13 @@ use Rattle.gix_object.specs.WellFormed.{EachLater, IsWellFormed}
 use Rattle.gix_object.specs.hash.hash.kind.Kind.{Kind}
 use Rattle.gix_object.specs.hash.hash.object_id.ObjectId.{ObjectId}
 use Rattle.gix_object.specs.hash.kind.Kind.TheVariants as kind
-use Rattle.gixobj_tree_entries.proofs.OneEntry.{entry_unique}
 
 -- ---- names lead to one entry
+
+-- an input begins with at most one entry
+abbrev pub BeginsWithOneEntry : Type 0
+BeginsWithOneEntry = (hash : Kind) (input : List ℕ) (e it : EntryView) (rest after : List ℕ) → BeginsWithEntry hash input e rest
+    → BeginsWithEntry hash input it after → (e ≡ it) × (rest ≡ after)
 
 -- this entry of the name comes after entries of other names
 record Comes (hash : Kind) (input : List ℕ) (consumed : List EntryView) (name : Name) (e : EntryView) : Type 0 where
@@ -37,69 +42,71 @@ comes_of_first_named : (hash : Kind) (input : List ℕ) (name : Name) (e : Entry
 comes_of_first_named hash input name e ((_, _, here, rest, (consumed, begins_with, others), begins), said) =
     (consumed, record { here = here; rest = rest; begins_with = begins_with; begins = begins; others = others; said = said })
 
--- an entry at the beginning has the name of the first consumed entry
-name_at_beginning : (hash : Kind) (input here rest after : List ℕ) (name : Name) (e x : EntryView) → input ≡ here → BeginsWithEntry hash here e rest
-    → IsNamed name e → BeginsWithEntry hash input x after → IsNamed name x
-name_at_beginning hash input here rest after name e x same begins said first =
-    sym (ap (λ (y : EntryView). y.name)
-    (entry_unique hash input e x rest after (subst (λ (at : List ℕ). BeginsWithEntry hash at e rest) (sym same) begins) first).0) ∙ said
+-- by the law that an input begins with at most one entry
+module _ (entry_unique : BeginsWithOneEntry) where
+  -- an entry at the beginning has the name of the first consumed entry
+  name_at_beginning : (hash : Kind) (input here rest after : List ℕ) (name : Name) (e x : EntryView) → input ≡ here → BeginsWithEntry hash here e rest
+      → IsNamed name e → BeginsWithEntry hash input x after → IsNamed name x
+  name_at_beginning hash input here rest after name e x same begins said first =
+      sym (ap (λ (y : EntryView). y.name)
+      (entry_unique hash input e x rest after (subst (λ (at : List ℕ). BeginsWithEntry hash at e rest) (sym same) begins) first).0) ∙ said
 
-comes_unique : (hash : Kind) (input : List ℕ) (name : Name) (consumed others : List EntryView) (e it : EntryView) → Comes hash input consumed name e
-    → Comes hash input others name it → e ≡ it
-comes_unique hash input name [] [] e it one other =
-    (entry_unique hash one.here e it one.rest other.rest one.begins
-    (subst (λ (at : List ℕ). BeginsWithEntry hash at it other.rest) (sym other.begins_with.1 ∙ one.begins_with.1) other.begins)).0
-comes_unique hash input name [] (x ∷ others) e it one other =
-    absurd (All-head (λ (y : EntryView). ¬ IsNamed name y) x others other.others
-    (name_at_beginning hash input one.here one.rest other.begins_with.1 name e x one.begins_with.1 one.begins one.said other.begins_with.2))
-comes_unique hash input name (x ∷ consumed) [] e it one other =
-    absurd (All-head (λ (y : EntryView). ¬ IsNamed name y) x consumed one.others
-    (name_at_beginning hash input other.here other.rest one.begins_with.1 name it x other.begins_with.1 other.begins other.said one.begins_with.2))
-comes_unique hash input name (x ∷ consumed) (y ∷ others) e it one other =
-    let same = (entry_unique hash input x y one.begins_with.1 other.begins_with.1 one.begins_with.2 other.begins_with.2).1 in
-    comes_unique hash one.begins_with.1 name consumed others e it (record {
-      here = one.here;
-      rest = one.rest;
-      begins_with = one.begins_with.3;
-      begins = one.begins;
-      others = All-tail (λ (z : EntryView). ¬ IsNamed name z) x consumed one.others;
-      said = one.said;
-    }) (record {
-      here = other.here;
-      rest = other.rest;
-      begins_with = subst (λ (at : List ℕ). runs.BeginsWithPieces (EntryStep hash) tt at others tt other.here) (sym same) other.begins_with.3;
-      begins = other.begins;
-      others = All-tail (λ (z : EntryView). ¬ IsNamed name z) y others other.others;
-      said = other.said;
-    })
+  comes_unique : (hash : Kind) (input : List ℕ) (name : Name) (consumed others : List EntryView) (e it : EntryView) → Comes hash input consumed name e
+      → Comes hash input others name it → e ≡ it
+  comes_unique hash input name [] [] e it one other =
+      (entry_unique hash one.here e it one.rest other.rest one.begins
+      (subst (λ (at : List ℕ). BeginsWithEntry hash at it other.rest) (sym other.begins_with.1 ∙ one.begins_with.1) other.begins)).0
+  comes_unique hash input name [] (x ∷ others) e it one other =
+      absurd (All-head (λ (y : EntryView). ¬ IsNamed name y) x others other.others
+      (name_at_beginning hash input one.here one.rest other.begins_with.1 name e x one.begins_with.1 one.begins one.said other.begins_with.2))
+  comes_unique hash input name (x ∷ consumed) [] e it one other =
+      absurd (All-head (λ (y : EntryView). ¬ IsNamed name y) x consumed one.others
+      (name_at_beginning hash input other.here other.rest one.begins_with.1 name it x other.begins_with.1 other.begins other.said one.begins_with.2))
+  comes_unique hash input name (x ∷ consumed) (y ∷ others) e it one other =
+      let same = (entry_unique hash input x y one.begins_with.1 other.begins_with.1 one.begins_with.2 other.begins_with.2).1 in
+      comes_unique hash one.begins_with.1 name consumed others e it (record {
+        here = one.here;
+        rest = one.rest;
+        begins_with = one.begins_with.3;
+        begins = one.begins;
+        others = All-tail (λ (z : EntryView). ¬ IsNamed name z) x consumed one.others;
+        said = one.said;
+      }) (record {
+        here = other.here;
+        rest = other.rest;
+        begins_with = subst (λ (at : List ℕ). runs.BeginsWithPieces (EntryStep hash) tt at others tt other.here) (sym same) other.begins_with.3;
+        begins = other.begins;
+        others = All-tail (λ (z : EntryView). ¬ IsNamed name z) y others other.others;
+        said = other.said;
+      })
 
-found_unique : (first : Option StoredObject) (name : Name) (e it : EntryView) → FoundIn first name e → FoundIn first name it → e ≡ it
-found_unique None name e it one other = absurd one
-found_unique (Some tree) name e it one other =
-    let (consumed, comes) = comes_of_first_named tree.object_hash tree.bytes name e one.1 in
-    let (others, also) = comes_of_first_named tree.object_hash tree.bytes name it other.1 in
-    comes_unique tree.object_hash tree.bytes name consumed others e it comes also
+  found_unique : (first : Option StoredObject) (name : Name) (e it : EntryView) → FoundIn first name e → FoundIn first name it → e ≡ it
+  found_unique None name e it one other = absurd one
+  found_unique (Some tree) name e it one other =
+      let (consumed, comes) = comes_of_first_named tree.object_hash tree.bytes name e one.1 in
+      let (others, also) = comes_of_first_named tree.object_hash tree.bytes name it other.1 in
+      comes_unique tree.object_hash tree.bytes name consumed others e it comes also
 
-no_path_of_nil : (objects : Objects) (first : Option StoredObject) (before : List EntryView) (e : EntryView) → IsPath objects first [] (before ++ e ∷ []) → ⊥
-no_path_of_nil objects first [] e path = path
-no_path_of_nil objects first (b ∷ before) e path = path
+  no_path_of_nil : (objects : Objects) (first : Option StoredObject) (before : List EntryView) (e : EntryView) → IsPath objects first [] (before ++ e ∷ []) → ⊥
+  no_path_of_nil objects first [] e path = path
+  no_path_of_nil objects first (b ∷ before) e path = path
 
-paths_unique : (objects : Objects) (first : Option StoredObject) (names : List Name) (before others : List EntryView) (e it : EntryView)
-    → IsPath objects first names (before ++ e ∷ []) → IsPath objects first names (others ++ it ∷ []) → e ≡ it
-paths_unique objects first [] before others e it one other = absurd (no_path_of_nil objects first before e one)
-paths_unique objects first (name ∷ names) [] [] e it one other = found_unique first name e it one.0 other.0
-paths_unique objects first (name ∷ []) [] (o ∷ others) e it one other = absurd (no_path_of_nil objects (named objects o.id) others it other.1)
-paths_unique objects first (name ∷ next ∷ names) [] (o ∷ others) e it one other = absurd one.1
-paths_unique objects first (name ∷ []) (b ∷ before) others e it one other = absurd (no_path_of_nil objects (named objects b.id) before e one.1)
-paths_unique objects first (name ∷ next ∷ names) (b ∷ before) [] e it one other = absurd other.1
-paths_unique objects first (name ∷ next ∷ names) (b ∷ before) (o ∷ others) e it one other =
-    let same = found_unique first name b o one.0 other.0 in
-    paths_unique objects (named objects b.id) (next ∷ names) before others e it one.1
-    (subst (λ (x : EntryView). IsPath objects (named objects x.id) (next ∷ names) (others ++ it ∷ [])) (sym same) other.1)
+  paths_unique : (objects : Objects) (first : Option StoredObject) (names : List Name) (before others : List EntryView) (e it : EntryView)
+      → IsPath objects first names (before ++ e ∷ []) → IsPath objects first names (others ++ it ∷ []) → e ≡ it
+  paths_unique objects first [] before others e it one other = absurd (no_path_of_nil objects first before e one)
+  paths_unique objects first (name ∷ names) [] [] e it one other = found_unique first name e it one.0 other.0
+  paths_unique objects first (name ∷ []) [] (o ∷ others) e it one other = absurd (no_path_of_nil objects (named objects o.id) others it other.1)
+  paths_unique objects first (name ∷ next ∷ names) [] (o ∷ others) e it one other = absurd one.1
+  paths_unique objects first (name ∷ []) (b ∷ before) others e it one other = absurd (no_path_of_nil objects (named objects b.id) before e one.1)
+  paths_unique objects first (name ∷ next ∷ names) (b ∷ before) [] e it one other = absurd other.1
+  paths_unique objects first (name ∷ next ∷ names) (b ∷ before) (o ∷ others) e it one other =
+      let same = found_unique first name b o one.0 other.0 in
+      paths_unique objects (named objects b.id) (next ∷ names) before others e it one.1
+      (subst (λ (x : EntryView). IsPath objects (named objects x.id) (next ∷ names) (others ++ it ∷ [])) (sym same) other.1)
 
-pub leads_to_unique : (objects : Objects) (first : Option StoredObject) (names : List Name) (e it : EntryView) → LeadsTo objects first names e
-    → LeadsTo objects first names it → e ≡ it
-leads_to_unique objects first names e it (before, one) (others, other) = paths_unique objects first names before others e it one other
+  pub leads_to_unique : (objects : Objects) (first : Option StoredObject) (names : List Name) (e it : EntryView) → LeadsTo objects first names e
+      → LeadsTo objects first names it → e ≡ it
+  leads_to_unique objects first names e it (before, one) (others, other) = paths_unique objects first names before others e it one other
 
 -- ---- the names of a file lead to it
 

@@ -1,7 +1,9 @@
 -- The written root of a run has the files of its steps, and the changes from the stored root lead to them; the proofs
 -- of `changes_of_run` and `run_and_write` use it.
-use Rattle.std.proofs.Common.{◌≡◌, ◌≢◌, ◌⊎◌, ◌∙◌, ◌≤◌, ℕ, Bool, true, false, List, [], ◌∷◌, None, Some, ap, length, refl, subst, sym, take}
+use Rattle.std.proofs.Common.{◌≡◌, ◌∙◌, ◌≤◌, ℕ, Bool, true, false, List, [], ◌∷◌, None, Some, ap, length, refl, subst, sym, take}
 use Rattle.std.specs.Prelude.{IsFalse}
+use Rattle.gix_object.proofs.Files.{history_congruent, same_files_trans}
+use Rattle.gix_object.proofs.Tables.{agrees_with_store_of_objects, tree_at_last_pair}
 use Rattle.gix_object.specs.Bases.{HasBases}
 use Rattle.gix_object.specs.Commands.{accepted_steps, kept_pairs, written_at}
 use Rattle.gix_object.specs.Entries.{EntryView, Pair}
@@ -24,11 +26,9 @@ use Rattle.gix_object.specs.editor.reply.EditReply.TheVariants as edit_reply
 use Rattle.gix_object.specs.editor.reply.Reply.{Reply}
 use Rattle.gix_object.specs.editor.reply.Reply.TheVariants as reply
 use Rattle.gix_object.specs.hash.hash.object_id.ObjectId.{ObjectId}
-use Rattle.gixobj_listings.proofs.Histories.{history_congruent, same_files_trans}
-use Rattle.gixobj_listings.proofs.Rooted.{agrees_with_store_of_objects, root_named, tree_at_last_pair}
 use Rattle.gixobj_listings.specs.Changes.{AreChanges, ChangeView}
 use Rattle.gixobj_listings.specs.Differences.{HasChanges}
-use Rattle.gixobj_listings.specs.Roots.{IsRoot}
+use Rattle.gixobj_listings.specs.Roots.{IsRoot, StoredRootHasFiles}
 use Rattle.gixobj_examples_audits.proofs.LastReplies.{run_snoc, steps_before_last, written_at_last}
 use Rattle.gixobj_examples_audits.specs.Runs.{HasNoWrite, IsChangedByRun, IsReopened, IsRunError, IsRunOnRoot, and_reply, and_write}
 use Rattle.gixobj_examples_audits.specs.declared.runs.RunChanges.{RunChanges}
@@ -127,9 +127,9 @@ module _ {S E : Type 0} (model : StoreModel S) (answers : Answers E) (store : S)
   run_error_of_no_write depth start remaining entries is_root new run_error.OutOfMemory none = tt
   run_error_of_no_write depth start remaining entries is_root new error none = absurd none
 
--- by the laws that every store names trees, that ids are equal or not, and that changes are those of steps
+-- by the laws that every store names trees, that a stored root has its files, and that changes are those of steps
 module _ {S E : Type 0} (model : StoreModel S) (answers : Answers E) (trees_of : (objects : Objects) → (trees : Trees) × AreTreesOf objects trees)
-    (same_or_not : (x y : ObjectId) → (x ≡ y) ⊎ (x ≢ y))
+    (has_files : StoredRootHasFiles)
     (are_of_steps : (T : Table) (n : ℕ) (from to : ObjectId) (steps : List Step) (changes : List ChangeView)
     → SameFiles (NamedFiles T n to) (FilesAfter T n steps (NamedFiles T n from)) → AreChanges (NamedFiles T n from) (NamedFiles T n to) changes
     → AreChanges (NamedFiles T n from) (FilesAfter T n steps (NamedFiles T n from)) changes)
@@ -163,7 +163,7 @@ module _ {S E : Type 0} (model : StoreModel S) (answers : Answers E) (trees_of :
         let before : AgreesWithStore T trees.0 = agrees_with_store_of_objects T (model.objects store) trees.0 trees.1 known in
         same_files_trans _ _ _ (files T n agrees (bases T))
         (history_congruent T n (accepted_steps commands it.replies.items) (EditorFiles T n start) (NamedFiles T n root)
-        (same_files_trans _ _ _ (begun T n) (root_named same_or_not T (model.objects store) trees.0 root entries some trees.1 before is_root n)))
+        (same_files_trans _ _ _ (begun T n) (has_files (model.objects store) trees.0 trees.1 T before root entries some is_root n)))
 
     tree_changes : (T : Table) (n : ℕ) → IsFalse (is_null root) → AgreesWithRun T (model.objects start.store) all → depth ≤ n
         → AreChanges (NamedFiles T n root) (NamedFiles T n it.written.id) it.changes.items
@@ -186,7 +186,7 @@ module _ {S E : Type 0} (model : StoreModel S) (answers : Answers E) (trees_of :
 -- ---- the written root, reopened
 
 module _ {S E : Type 0} (model : StoreModel S) (answers : Answers E) (trees_of : (objects : Objects) → (trees : Trees) × AreTreesOf objects trees)
-    (same_or_not : (x y : ObjectId) → (x ≡ y) ⊎ (x ≢ y)) (old between new : State S) (commands : List Command) (replies : List (Reply E))
+    (has_files : StoredRootHasFiles) (old between new : State S) (commands : List Command) (replies : List (Reply E))
     (written : Written) (run : IsRun model answers old (and_write commands) (and_reply replies (edit_reply.Written written)) between) where
   -- the written root has the files that the accepted commands make
   abbrev pub HasRunFiles : Type 0
@@ -218,7 +218,7 @@ module _ {S E : Type 0} (model : StoreModel S) (answers : Answers E) (trees_of :
         let there : AgreesWithStore T trees.0 = agrees_with_store_of_objects T (model.objects between.store) trees.0 trees.1 known in
         same_files_trans _ _ _ (subst (λ (s : State S). SameFiles (EditorFiles T n s) (Files T n entries)) (sym is_shown) (its_files T n))
         (same_files_trans _ _ _
-        (root_named same_or_not T (model.objects between.store) trees.0 written.id entries (filled T agrees) trees.1 there is_root n)
+        (has_files (model.objects between.store) trees.0 trees.1 T there written.id entries (filled T agrees) is_root n)
         (files T n agrees has));
     has_bases = λ T. subst (λ (s : State S). HasBases T (open_dirs s) (open_bases s)) (sym is_shown) (bases T);
   }

@@ -1,10 +1,11 @@
 -- The tests of `is_canonical` decide whether a stored tree is canonical; its proof and those of its parts use it.
 use Rattle.std.proofs.Common.{◌≡◌, ◌≢◌, ◌↔◌, ◌∙◌, ◌-◌, ◌+◌, ◌<◌, inl, inr, ℕ, zero, suc, Bool, true, false, List, [], ◌∷◌, ◌++◌, Option, Some, Err, Ok, Result}
 use Rattle.std.proofs.Common.{refl, sym, ap, subst, arith, get_or, length, take}
-use Rattle.std.specs.Prelude.{IfErr, IfOk, IsTrue, MatchOption, slice_get}
+use Rattle.std.specs.Prelude.{IfErr, IfOk, IsErrAnd, IsTrue, MatchOption, slice_get}
 use Rattle.std.specs.List.{AllByRecursion}
 use Rattle.std.proofs.lemmas.List.{take_more}
-use Rattle.gixobj_editor_files.proofs.NullIds.{is_null_of_test}
+use Rattle.std.proofs.lemmas.Bool.{false_from_ne_true}
+use Rattle.gix_object.specs.BuiltTrees.{NullIdTestDecides}
 use Rattle.gix_object.specs.Entries.{EntryView}
 use Rattle.gix_object.specs.Files.{ContainsEntry, Trees, is_null}
 use Rattle.gix_object.specs.Hash.{IsNull}
@@ -20,10 +21,24 @@ use Rattle.gixobj_listings.specs.declared.roots.RootError.{RootError}
 use Rattle.gixobj_examples_audits.proofs.BuiltTrees.{all_of_contains}
 use Rattle.gixobj_examples_audits.specs.Canonical.{AreCanonicalBefore, IsCanonicalTree, IsCanonicalEntry, IsPlainDirectory, IsUnreadBelow, NamesCanonical}
 
+-- ---- errors
+
+-- an error that `?` returns
+pub if_err_weaken : {X E : Type 0} (r : Result X E) (P Q : E → Type 0) → IsErrAnd r P → ((error : E) → P error → Q error) → IfErr r Q
+if_err_weaken (Ok x) P Q had f = absurd had
+if_err_weaken (Err error) P Q had f = f error had
+
 -- ---- entries
 
-pub entry_is_null_of_test : (b v : Bool) (inside e : EntryView) → inside ≡ e → (IsTrue b ↔ IsNull inside.id) → b ≡ v → is_null e.id ≡ v
-entry_is_null_of_test b v inside e same yields is = sym (is_null_of_test inside.id b yields ∙ ap (λ (y : EntryView). is_null y.id) same) ∙ is
+-- by the law that the test for a null id agrees with the null id
+is_null_of_test : NullIdTestDecides → (id : ObjectId) (b : Bool) → (IsTrue b ↔ IsNull id) → b ≡ is_null id
+is_null_of_test decides id true yields = sym ((decides id).1 (yields.0 refl))
+is_null_of_test decides id false yields = sym (false_from_ne_true (is_null id) (λ passes. cc (yields.1 ((decides id).0 passes))))
+
+pub entry_is_null_of_test : NullIdTestDecides → (b v : Bool) (inside e : EntryView) → inside ≡ e → (IsTrue b ↔ IsNull inside.id) → b ≡ v
+    → is_null e.id ≡ v
+entry_is_null_of_test decides b v inside e same yields is =
+    sym (is_null_of_test decides inside.id b yields ∙ ap (λ (y : EntryView). is_null y.id) same) ∙ is
 
 pub is_tree_mode_of_test : (b v : Bool) (inside e : EntryView) → inside ≡ e → b ≡ is_tree_mode inside.mode → b ≡ v → is_tree_mode e.mode ≡ v
 is_tree_mode_of_test b v inside e same yields is = sym (yields ∙ ap (λ (y : EntryView). is_tree_mode y.mode) same) ∙ is

@@ -9,7 +9,7 @@ ghost use Rattle.gixobj_examples_audits.specs.Canonical.{IsPlainDirectory, IsUnr
 
 use gix_object::Find;
 use gix_object::hash::{Kind, ObjectId};
-use gix_object::laws::id_equality_is_decidable;
+use gix_object::laws::null_id_test_decides;
 use gix_object::tree::{Entry, EntryKind, EntryMode};
 use gixobj_listings::roots::{RootError, root_in};
 use std::alloc::Global;
@@ -87,6 +87,7 @@ fn is_canonical_entry<S: Find>(
     ensures error { IfErr result (λ error. IsDirectory entry.now × IsPlainDirectory hash entry.now
         × IsUnreadBelow (S.objects store.now) (S.may_fail store.now) hash depth entry.now.id error) }
 {
+    null_id_test_decides();
     if entry.oid.is_null() {
         return Ok(false);
     }
@@ -110,6 +111,7 @@ fn is_plain_directory(entry: &Entry, hash: Kind) -> bool
 fn is_looked_up(id: ObjectId) -> bool
     ensures { IsTrue result ↔ (¬ IsNeverLookedUp id) }
 {
+    null_id_test_decides();
     if id.is_null() {
         return false;
     }

@@ -10,7 +10,7 @@ use bstr::BString;
 use gix_object::find::{self, existing_iter};
 use gix_object::hash::{Kind, ObjectId};
 use gix_object::import::{ImportError, Imported, Importer, Step, import_all};
-use gix_object::laws::{id_equality_is_decidable, store_has_tree_map};
+use gix_object::laws::store_has_tree_map;
 use gix_object::tree::Entry;
 use gix_object::{Find, FindExt, Keep, KeepCommit};
 use std::alloc::Global;
@@ -130,7 +130,6 @@ pub fn entry_after_import<S: Keep + KeepCommit + Drop>(
     ensures error { IfErr result (IsLookupError (store_model S.objects S.may_fail) store hash
         steps.now (map bstring_bytes path.now)) }
 {
-    id_equality_is_decidable();
     file_is_looked_up();
     path_leads_to_one_entry();
     let mut importer = Importer::new(alloc, store, hash);

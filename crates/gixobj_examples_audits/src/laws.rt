@@ -18,7 +18,7 @@ ghost use Rattle.gix_object.specs.hash.hash.kind.Kind.{Kind};
 ghost use Rattle.gix_object.specs.hash.hash.object_id.ObjectId.{ObjectId};
 ghost use Rattle.gixobj_examples_audits.specs.Outcomes.{AreSameDirs, HaveIdsBy};
 
-use gix_object::laws::id_equality_is_decidable;
+use gix_object::laws::{id_equality_is_decidable, tree_decodes_uniquely};
 
 /// A file of a stored tree is found by a lookup of its path, through directories of the store.
 ///
@@ -39,7 +39,9 @@ pub fn path_leads_to_one_entry()
     ensures { (objects : Objects) (first : Option StoredObject) (names : List Name)
         (e other : EntryView) → LeadsTo objects first names e → LeadsTo objects first names other
         → e ≡ other }
-{}
+{
+    tree_decodes_uniquely();
+}
 
 /// Writes of the same open directories with the same bases emit the same trees, if ids are a function of the
 /// trees, as digests are. They leave out as many unchanged directories.

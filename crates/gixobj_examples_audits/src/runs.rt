@@ -15,13 +15,11 @@ ghost use Rattle.gixobj_examples_audits.specs.Runs.{HasNoWrite, IsChangedByRun, 
 ghost use Rattle.gixobj_examples_audits.specs.Runs.{and_reply, and_write};
 
 use gix_object::hash::ObjectId;
-use gix_object::laws::{
-    id_equality_is_decidable, run_table_agrees_with_writes, store_has_tree_map,
-};
+use gix_object::laws::{run_table_agrees_with_writes, store_has_tree_map};
 use gix_object::tree::editor::{Command, Edit, EditReply, Editor, Reply, WriteError, Written, run};
 use gix_object::{Keep, KeepError, OutOfMemory, Tree};
 use gixobj_listings::differences::{Change, changes};
-use gixobj_listings::laws::tree_changes_are_step_changes;
+use gixobj_listings::laws::{stored_root_has_files, tree_changes_are_step_changes};
 use gixobj_listings::listing::ListError;
 use gixobj_listings::roots::{RootError, root_in};
 use std::alloc::Global;
@@ -110,7 +108,7 @@ pub fn changes_of_run<S: Keep + Drop, E: Drop, F: Fn(&Tree) -> Result<ObjectId, 
         store root commands.items depth) }
 {
     store_has_tree_map();
-    id_equality_is_decidable();
+    stored_root_has_files();
     tree_changes_are_step_changes();
     let tree = match root_in(alloc, &store, root) {
         Ok(tree) => tree,
@@ -159,7 +157,7 @@ pub fn run_and_reopen<S: Keep, E: Drop, F: Fn(&Tree) -> Result<ObjectId, E> + Dr
         (FnReturnsAt F.Fn out) editor.old commands.items error editor.new) }
 {
     store_has_tree_map();
-    id_equality_is_decidable();
+    stored_root_has_files();
     let (replies, written) = match run_and_write(alloc, editor, commands, out) {
         Ok(it) => it,
         Err(error) => return Err(error),

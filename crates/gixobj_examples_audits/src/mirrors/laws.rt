@@ -6,6 +6,8 @@ ghost use Rattle.gix_object.specs.hash.hash.kind.Kind.{Kind};
 ghost use Rattle.gix_object.specs.hash.hash.object_id.ObjectId.{ObjectId};
 ghost use Rattle.gixobj_examples_audits.specs.Canonical.{AgreesWithBoth, IsCanonicalRoot};
 
+use gix_object::laws::{built_trees_are_unique, directory_has_files_of_tree};
+
 /// Canonical roots of two stores have equal ids if and only if they have the same files, at every depth.
 ///
 /// A canonical tree is well-formed, without null ids and empty directories; so is each tree below it. The modes
@@ -16,4 +18,7 @@ pub fn equal_files_have_equal_ids()
         → AgreesWithStore T trees → AgreesWithStore U others → AgreesWithBoth shared trees others
         → IsCanonicalRoot trees hash n x → IsCanonicalRoot others hash m y
         → (x ≡ y) ↔ ((k : ℕ) → SameFiles (NamedFiles T k x) (NamedFiles U k y)) }
-{}
+{
+    built_trees_are_unique();
+    directory_has_files_of_tree();
+}

@@ -4,28 +4,29 @@ use Rattle.std.proofs.lemmas.Bool.{eq-eqb}
 use Rattle.std.proofs.lemmas.List.{take_all}
 use Rattle.gix_object.specs.Files.{is_null}
 use Rattle.gix_object.specs.Mode.{is_tree_mode}
-use Rattle.gixobj_listings.proofs.Rooted.{if_err_weaken}
 use Rattle.gixobj_listings.specs.Roots.{IsRoot}
 use Rattle.gixobj_examples_audits.specs.Canonical.{IsCanonicalTree, IsCanonicalEntry, IsUnreadBelow}
 use Rattle.gixobj_examples_audits.proofs.StoredTrees.{all_take_snoc, canonical_of_directory, canonical_of_entries, entry_is_null_of_test, error_below_tree}
-use Rattle.gixobj_examples_audits.proofs.StoredTrees.{error_of_directory, is_tree_mode_of_test, not_canonical_of_entry, not_canonical_of_null}
+use Rattle.gixobj_examples_audits.proofs.StoredTrees.{error_of_directory, if_err_weaken, is_tree_mode_of_test, not_canonical_of_entry, not_canonical_of_null}
 use Rattle.gixobj_examples_audits.proofs.canonical.+checking.Goals as goal
 
 pub is_canonical_entry-returns-then-is_null-clause-canonical : goal.is_canonical_entry-returns-then-is_null-clause-canonical
 is_canonical_entry-returns-then-is_null-clause-canonical g t c = λ trees fits.
     not_canonical_of_null trees c.args.hash c.args.depth c.args.entry.now
-    (entry_is_null_of_test _ _ _ _ c.entry.view_is c.is_null.ensures c.if-is_null.true)
+    (entry_is_null_of_test c.null_id_test_decides.ensures _ _ _ _ c.entry.view_is c.is_null.ensures c.if-is_null.true)
 
 pub is_canonical_entry-returns-clause-canonical : goal.is_canonical_entry-returns-clause-canonical
 is_canonical_entry-returns-clause-canonical g t c =
-    let some : is_null c.args.entry.now.id ≡ false = entry_is_null_of_test _ _ _ _ c.entry.view_is c.is_null.ensures c.if-is_null.false in
+    let some : is_null c.args.entry.now.id ≡ false =
+    entry_is_null_of_test c.null_id_test_decides.ensures _ _ _ _ c.entry.view_is c.is_null.ensures c.if-is_null.false in
     let is : is_tree_mode c.args.entry.now.mode ≡ true = is_tree_mode_of_test _ _ _ _ c.entry.view_is c.is_tree.ensures c.if-not-is_tree.false in
     canonical_of_directory (g.S.Store.objects c.args.store.now) c.args.hash c.args.depth _ c.args.entry.now c.entry.view_is some is
     (c.is_plain_directory.ensures.0 c.if-not-is_plain_directory.false) c.is_canonical_tree.result c.is_canonical_tree.ensures.canonical
 
 pub is_canonical_entry-returns-clause-error : goal.is_canonical_entry-returns-clause-error
 is_canonical_entry-returns-clause-error g t c =
-    let some : is_null c.args.entry.now.id ≡ false = entry_is_null_of_test _ _ _ _ c.entry.view_is c.is_null.ensures c.if-is_null.false in
+    let some : is_null c.args.entry.now.id ≡ false =
+    entry_is_null_of_test c.null_id_test_decides.ensures _ _ _ _ c.entry.view_is c.is_null.ensures c.if-is_null.false in
     let is : is_tree_mode c.args.entry.now.mode ≡ true = is_tree_mode_of_test _ _ _ _ c.entry.view_is c.is_tree.ensures c.if-not-is_tree.false in
     error_of_directory (g.S.Store.objects c.args.store.now) (g.S.Store.may_fail c.args.store.now) c.args.hash c.args.depth _ c.args.entry.now
     c.entry.view_is some is (c.is_plain_directory.ensures.0 c.if-not-is_plain_directory.false) c.is_canonical_tree.result c.is_canonical_tree.ensures.error

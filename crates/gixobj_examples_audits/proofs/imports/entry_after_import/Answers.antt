@@ -28,8 +28,8 @@ returns-in-Some-clause-found g c =
     let files = subst (λ (s : g.row.S.Denot). HaveFilesOfNothing (g.S.Store.objects s) c.args.steps.now imported) new.store (ran.files new.new) in
     let is : imported ≡ c.pop.new.self.items ++ c.in-Some.last ∷ [] =
     c.pop.ensures.items ∙ ap (λ (o : Option Imported). c.pop.new.self.items ++ option_to_list o) c.in-Some.is in
-    entry_of_last_result model c.args.store c.args.hash c.args.steps.now names c.id_equality_is_decidable.ensures imported done files c.pop.new.self.items
-    c.in-Some.last is c.entry_in.result
+    entry_of_last_result model c.args.store c.args.hash c.args.steps.now names c.path_leads_to_one_entry.ensures c.file_is_looked_up.ensures imported done files
+    c.pop.new.self.items c.in-Some.last is c.entry_in.result
     (subst (λ (s : g.row.S.Denot). IfOk c.entry_in.result (IsFoundIn (g.S.Store.objects s) c.in-Some.last.written.id names)) c.store_mut.ensures.value
     c.entry_in.ensures.found)
 
@@ -51,8 +51,8 @@ returns-in-Some-clause-error g c =
     let files = subst (λ (s : g.row.S.Denot). HaveFilesOfNothing (g.S.Store.objects s) c.args.steps.now imported) new.store (ran.files new.new) in
     let is : imported ≡ c.pop.new.self.items ++ c.in-Some.last ∷ [] =
     c.pop.ensures.items ∙ ap (λ (o : Option Imported). c.pop.new.self.items ++ option_to_list o) c.in-Some.is in
-    lookup_error_of_last model c.args.store c.args.hash c.args.steps.now names c.id_equality_is_decidable.ensures imported done files c.pop.new.self.items
-    c.in-Some.last is c.entry_in.result
+    lookup_error_of_last model c.args.store c.args.hash c.args.steps.now names c.path_leads_to_one_entry.ensures c.file_is_looked_up.ensures imported done files
+    c.pop.new.self.items c.in-Some.last is c.entry_in.result
     (subst (λ (s : g.row.S.Denot). IfErr c.entry_in.result (IsFoundInError (g.S.Store.objects s) (g.S.Store.may_fail s) c.in-Some.last.written.id names))
     c.store_mut.ensures.value c.entry_in.ensures.error)
 
@@ -72,5 +72,5 @@ returns-clause-found g c =
       imported_steps = ran.imported;
     } in
     let files = subst (λ (s : g.row.S.Denot). HaveFilesOfNothing (g.S.Store.objects s) c.args.steps.now imported) new.store (ran.files new.new) in
-    entry_of_none model c.args.store c.args.hash c.args.steps.now names c.id_equality_is_decidable.ensures imported done files
+    entry_of_none model c.args.store c.args.hash c.args.steps.now names c.path_leads_to_one_entry.ensures c.file_is_looked_up.ensures imported done files
     (nil_of_popped imported c.pop.result _ c.in-Ok.imported.ok.0 c.pop.ensures.variant c.in-None.is)

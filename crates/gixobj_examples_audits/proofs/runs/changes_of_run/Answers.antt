@@ -28,7 +28,7 @@ returns-in-Ok-changes-clause-changed g c =
     let begun = new.state ∙ ap (new_state c.in-Ok.tree c.args.store) c.kind.ensures in
     let ran = c.in-Ok-run_and_write.ensures {u = tt} in
     let it = c.in-Ok-run_and_write.it in
-    changed_by_run model answers c.store_has_tree_map.ensures c.id_equality_is_decidable.ensures c.tree_changes_are_step_changes.ensures c.args.store
+    changed_by_run model answers c.store_has_tree_map.ensures c.stored_root_has_files.ensures c.tree_changes_are_step_changes.ensures c.args.store
     c.args.root c.args.commands.items c.args.depth c.new-editor.result c.run_and_write.new.editor c.in-Ok.tree (c.in-Ok.ensures {u = tt}).found begun
     (record { replies = it.0; written = it.1; changes = c.in-Ok-changes.changes }) ran.run new.files new.has_bases ran.files ran.filled ran.stored
     (subst (λ (s : g.row.S.Denot). IsFalse (is_null c.args.root) → IsFalse (is_null it.1.id)

@@ -36,7 +36,7 @@ returns-clause-reopened g c =
     let ran = c.in-Ok.ensures {u = tt} in
     let between = c.run_and_write.new.editor in
     let root = c.in-Ok-root_in.root in
-    reopened model answers c.store_has_tree_map.ensures c.id_equality_is_decidable.ensures c.args.editor.now between _ c.args.commands.items it.0.items it.1
+    reopened model answers c.store_has_tree_map.ensures c.stored_root_has_files.ensures c.args.editor.now between _ c.args.commands.items it.0.items it.1
     ran.run ran.files ran.filled ran.stored root
     (subst (λ (s : g.row.S.Denot). IsRoot (g.S.Store.objects s) it.1.id root) c.store_mut.ensures.value (c.in-Ok-root_in.ensures {u = tt}).found)
     c.set_root.result.now (search rules)
