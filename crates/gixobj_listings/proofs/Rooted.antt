@@ -1,15 +1,13 @@
 -- A table that agrees with a store has its roots and its trees.
-use Rattle.std.proofs.Common.{◌≡◌, ◌≢◌, ◌⊎◌, ◌∙◌, ℕ, List, [], ◌∷◌, ◌++◌, Err, Ok, Result, Some, ⊎_elim, ap, subst, sym}
+use Rattle.std.proofs.Common.{◌≡◌, ◌≢◌, ◌⊎◌, ◌∙◌, ℕ, List, [], Err, Ok, Result, Some, ⊎_elim, ap, subst, sym}
 use Rattle.std.specs.Prelude.{IfErr, IfOk, IsErrAnd, IsFalse, MatchOption, Option}
-use Rattle.std.proofs.lemmas.List.Elements.{All-contains, Contains-push}
-use Rattle.gix_object.specs.Entries.{EntryView, Pair}
+use Rattle.gix_object.specs.Entries.{EntryView}
 use Rattle.gix_object.specs.Existing.{IsEmptyId}
 use Rattle.gix_object.specs.Files.{Files, NamedFiles, SameFiles, Table, Trees, is_null}
 use Rattle.gix_object.specs.Hash.{id_kind, id_of}
 use Rattle.gix_object.specs.Openings.{AreTreesOf}
-use Rattle.gix_object.specs.RunTables.{AgreesWithObjects}
 use Rattle.gix_object.specs.Stores.{Objects}
-use Rattle.gix_object.specs.Tables.{AgreesWithPairs, AgreesWithStore}
+use Rattle.gix_object.specs.Tables.{AgreesWithStore}
 use Rattle.gix_object.specs.hash.hash.object_id.ObjectId.{ObjectId}
 use Rattle.gix_object.specs.hash.kind.Kind.TheVariants.{Tree}
 use Rattle.gixobj_listings.specs.Roots.{IsRoot}
@@ -30,18 +28,6 @@ module _ (same_or_not : (x y : ObjectId) → (x ≡ y) ⊎ (x ≢ y)) (T : Table
   root_named n path mode id =
       let at : Option (List EntryView) → Type 0 = λ found. MatchOption found ⊥ (λ es. Files T n es path mode id) in
       (subst at (sym root_there), subst at root_there)
-
--- a table that agrees with the objects agrees with their trees
-pub agrees_with_store_of_objects : (T : Table) (objects : Objects) (trees : Trees) → AreTreesOf objects trees → AgreesWithObjects T objects
-    → AgreesWithStore T trees
-agrees_with_store_of_objects T objects trees fits agrees = λ id entries requested is. agrees id entries requested ((fits id entries).0 is)
-
--- a table that agrees with pairs has the last pair
-pub tree_at_last_pair : (T : Table) (pairs below : List Pair) (pair : Pair) → pairs ≡ below ++ pair ∷ [] → AgreesWithPairs T pairs
-    → T.tree_at pair.0 ≡ Some pair.1
-tree_at_last_pair T pairs below pair is agrees =
-    let Known : Pair → Type 0 = λ p. T.tree_at p.0 ≡ Some p.1 in
-    All-contains Known (below ++ pair ∷ []) pair (subst (λ (ps : List Pair). AgreesWithPairs T ps) is agrees) (Contains-push below pair)
 
 -- ---- errors
 
