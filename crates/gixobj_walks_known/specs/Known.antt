@@ -13,7 +13,7 @@ pub record IsKnownGraph (nodes : Nodes) : Type 0 where
   pub read : (number : ℕ) → number < length nodes → IsRead (graph_at nodes) number
   pub parents : AreParentsKnown nodes
 
--- a commit is read, and its parents are among so many commits
+-- a commit is read, and its parents are numbers below the bound
 abbrev pub IsKnownEntry : ℕ → Option (NodeView ℕ) → Type 0
 IsKnownEntry count entry = (node : NodeView ℕ) × (entry ≡ Some node)
     × AllByRecursion (λ parent. parent < count) node.parents

@@ -14,7 +14,7 @@ pub fn is_known_graph(nodes: &[Option<Node>]) -> bool
     are_known(nodes, nodes.len())
 }
 
-/// Tests whether each of these commits is read, and their parents are among so many commits.
+/// Tests whether each of these commits is read, and their parents are numbers below `count`.
 fn are_known(nodes: &[Option<Node>], count: usize) -> bool
     ensures { IsTrue result ↔ All (IsKnownEntry count) nodes.now }
 {
@@ -26,7 +26,7 @@ fn are_known(nodes: &[Option<Node>], count: usize) -> bool
     true
 }
 
-/// Tests whether a commit is read, and its parents are among so many commits.
+/// Tests whether a commit is read, and its parents are numbers below `count`.
 fn is_known(node: &Option<Node>, count: usize) -> bool
     ensures { IsTrue result ↔ IsKnownEntry count node.now }
 {
