@@ -3,10 +3,10 @@ use gixobj_walks_commits::NodeError;
 use gixobj_walks_order::ListError;
 use std::alloc::AllocError;
 
-/// The error of [`list_commits`](crate::list_commits).
+/// The error of [`list_commits`](crate::list_commits) and [`peel_to_commits`](crate::peel_to_commits).
 #[derive(Debug, Drop, thiserror::Error)]
 pub enum WalkError {
-    /// A commit that the walk needs was not read.
+    /// A commit that the walk needs isn't read, or an id isn't peeled.
     #[error(transparent)]
     Node(NodeError),
     /// A commit is an ancestor of itself, so that no order has each commit before its parents.

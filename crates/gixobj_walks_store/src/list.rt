@@ -16,8 +16,11 @@ use std::alloc::Global;
 /// Lists the commits that some tips reach and no hidden commit reaches, in this order (git-rev-list,
 /// `TIP.. ^HIDDEN..`, `--date-order`, `--topo-order`).
 ///
-/// The tips and the hidden commits are ids of commits of the store, and may be given several times. Each commit that
-/// the walk needs is looked up once. If hidden commits are given, no commit may be an ancestor of itself.
+/// The tips and the hidden commits are ids of commits, and may repeat; [`peel_to_commits`](crate::peel_to_commits)
+/// makes commits of tags. Each commit that the walk needs is looked up once. With hidden commits the list is exact if
+/// no commit is an ancestor of itself, which the digests of ids rule out.
+///
+/// A hidden commit that the walk needs must be readable too. Git goes on without the parents of one that it can't read.
 ///
 /// Allocates space for each commit that is looked up and for its parents, and what the store allocates.
 ///
