@@ -3,11 +3,10 @@ use Rattle.std.proofs.Common.{◌≡◌, ◌↔◌, ◌<◌, ℕ, Bool, false, L
 use Rattle.std.specs.List.{AllZip}
 use Rattle.std.specs.Prelude.{Contains, IsTrue, Option}
 use Rattle.gixobj_hash.specs.declared.hash.object_id.ObjectId.{ObjectId}
-use Rattle.gixobj_walks_graph.specs.Bases.{AreMergeBases, IsCommon, IsMergeBase}
-use Rattle.gixobj_walks_graph.specs.Graph.{AreOnce, Graph, IsAcyclic, IsIncluded, IsRead, NodeView}
+use Rattle.gixobj_walks_graph.specs.Bases.{AreMergeBases, IsMergeBase}
+use Rattle.gixobj_walks_graph.specs.Graph.{AreOnce, IsAcyclic, IsIncluded, IsRead, NodeView}
 use Rattle.gixobj_walks_graph.specs.Numbered.{graph_at}
-use Rattle.gixobj_walks_marks.proofs.Ends.{settled_bases_are_exact}
-use Rattle.gixobj_walks_marks.proofs.Paths.{ancestor_has_child, reaches_itself, reaches_transitively, step_reaches}
+use Rattle.gixobj_walks_marks.proofs.Ends.{candidate_is_base, settled_bases_are_exact}
 use Rattle.gixobj_walks_marks.specs.Marks.{HasMarks}
 use Rattle.gixobj_walks_marks.specs.Readings.{ReadingView}
 use Rattle.gixobj_walks_marks.specs.Settled.{IsCandidate, IsSettledBases}
@@ -27,27 +26,6 @@ pub start_of_zip : (ids : List ObjectId) (numbers : List ℕ) (id : ObjectId) �
 start_of_zip ids [] id zip = absurd zip
 start_of_zip ids (number ∷ []) id zip = (number, refl, zip.0)
 start_of_zip ids (number ∷ second ∷ numbers) id zip = absurd zip.1
-
--- ---- candidates
-
--- a candidate is a merge base of the same graph, since each common ancestor with an ancestor has a common child of it
-pub candidate_is_base : {V : Type 0} (R : Graph V) (one other id : V) → IsCandidate R one other id ↔ IsMergeBase R one other id
-candidate_is_base R one other id = (
-  (λ is. record {
-    common = is.common;
-    best = λ better common path.
-        let last = ancestor_has_child R path.0 better id path.1 in
-        let child : IsCommon R one other last.0 = record {
-          from_one = reaches_transitively R one better last.0 common.from_one last.1;
-          from_other = reaches_transitively R other better last.0 common.from_other last.1;
-        } in
-        is.best last.0 child last.2;
-  }),
-  (λ is. record {
-    common = is.common;
-    best = λ child common edge. is.best child common (step_reaches R child id id edge (reaches_itself R id));
-  }),
-)
 
 -- ---- a search
 

@@ -1,37 +1,15 @@
 -- Candidates for merge bases are merge bases, where each commit is read.
-use Rattle.std.proofs.Common.{◌≢◌, ◌↔◌, ◌<◌, ℕ, Bool, List, [], ◌∷◌, Contains, Result, Ok, Err, IfOk, Vec, Global, refl, arith, ◌≡◌, ◌∙◌, zero, suc, ◌+◌}
+use Rattle.std.proofs.Common.{◌≢◌, ◌↔◌, ◌<◌, ℕ, Bool, List, [], ◌∷◌, Contains, Result, Ok, Err, IfOk, Vec, Global, arith, ◌≡◌, ◌∙◌, zero, suc, ◌+◌}
 use Rattle.std.proofs.Common.{get_or, length, subst, add-one}
 use Rattle.std.proofs.lemmas.List.{get_or_default}
 use Rattle.std.specs.List.Sorted.{IsStrictlyIncreasing}
-use Rattle.gixobj_walks_graph.specs.Bases.{AreMergeBases, IsCommon, IsMergeBase}
-use Rattle.gixobj_walks_graph.specs.Graph.{AreOnce, Graph, Reaches}
+use Rattle.gixobj_walks_graph.specs.Bases.{AreMergeBases}
+use Rattle.gixobj_walks_graph.specs.Graph.{AreOnce}
 use Rattle.gixobj_walks_graph.specs.Numbered.{Nodes, graph_at}
 use Rattle.gixobj_walks_marks.specs.Marks.{HasMarks}
 use Rattle.gixobj_walks_marks.specs.Settled.{IsCandidate}
+use Rattle.gixobj_walks_marks.proofs.Ends.{candidate_is_base}
 use Rattle.gixobj_walks_marks.proofs.Marked.{from_each_contained}
-use Rattle.gixobj_walks_marks.proofs.Paths.{ancestor_has_child, reaches_transitively}
-
-module _ {V : Type 0} (G : Graph V) (one other : V) where
-  -- what a common commit reaches is common
-  below_common : (id last : V) → IsCommon G one other id → Reaches G id last → IsCommon G one other last
-  below_common id last common path = record {
-    from_one = reaches_transitively G one id last common.from_one path;
-    from_other = reaches_transitively G other id last common.from_other path;
-  }
-
-  pub candidates_are_bases : (id : V) → IsCandidate G one other id ↔ IsMergeBase G one other id
-  candidates_are_bases id = (
-    (λ is. record {
-      common = is.common;
-      best = λ better common path.
-          let child = ancestor_has_child G path.0 better id path.1 in
-          is.best child.0 (below_common better child.0 common child.1) child.2;
-    }),
-    (λ is. record {
-      common = is.common;
-      best = λ child common edge. is.best child common (0, (id, edge, refl));
-    }),
-  )
 
 -- of numbers that ascend, the first is less than the others
 first_is_less : (x : ℕ) (xs : List ℕ) → IsStrictlyIncreasing (x ∷ xs) → (k : ℕ) → k < length xs → x < get_or xs k 0
@@ -72,7 +50,7 @@ bases_of_candidates nodes one other left right on_left on_right (Err error) exac
 bases_of_candidates nodes one other left right on_left on_right (Ok found) exact ascending = record {
   exact = λ id.
       let candidate = exact one other on_left on_right id in
-      let best = candidates_are_bases (graph_at nodes) one other id in (
+      let best = candidate_is_base (graph_at nodes) one other id in (
         (λ has. best.0 (candidate.0 has)),
         (λ is. candidate.1 (best.1 is)),
       );

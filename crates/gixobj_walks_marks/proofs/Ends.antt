@@ -177,6 +177,25 @@ settled_reaches_base {V} R G one other included functional decide settled id bas
       ]
     ]
 
+-- a candidate is a merge base of the same graph, since each common ancestor with an ancestor has a common child of it
+pub candidate_is_base : {V : Type 0} (R : Graph V) (one other id : V) → IsCandidate R one other id ↔ IsMergeBase R one other id
+candidate_is_base R one other id = (
+  (λ is. record {
+    common = is.common;
+    best = λ better common path.
+        let last = ancestor_has_child R path.0 better id path.1 in
+        let child : IsCommon R one other last.0 = record {
+          from_one = reaches_transitively R one better last.0 common.from_one last.1;
+          from_other = reaches_transitively R other better last.0 common.from_other last.1;
+        } in
+        is.best last.0 child last.2;
+  }),
+  (λ is. record {
+    common = is.common;
+    best = λ child common edge. is.best child common (step_reaches R child id id edge (reaches_itself R id));
+  }),
+)
+
 -- where a search is settled, exactly the merge bases of the larger graph are candidates
 pub settled_bases_are_exact : {V : Type 0} (R G : Graph V) (one other : V) → IsIncluded R G → IsFunctional G
     → IsAcyclic G → ((id : V) → IsRead R id ⊎ (¬ IsRead R id)) → IsSettledBases R one other → (id : V)

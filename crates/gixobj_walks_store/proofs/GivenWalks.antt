@@ -37,7 +37,7 @@ walk_over_begins G tips hidden walk tips_are hidden_are none known = record {
       (known id has);
 }
 
-reached_parent : (G : Graph ObjectId) (tips hidden : List ObjectId) (child parent : ObjectId) → IsReachedFromEither G tips hidden child
+pub reached_parent : (G : Graph ObjectId) (tips hidden : List ObjectId) (child parent : ObjectId) → IsReachedFromEither G tips hidden child
     → HasParent G child parent → IsReachedFromEither G tips hidden parent
 reached_parent G tips hidden child parent reached edge = ⊎_elim
     (λ it. inl (reached_from_reaches G tips child parent it (reaches_parent G child parent edge)))

@@ -1,4 +1,5 @@
 mod Bottoms
 mod GivenWalks
 mod Peels
+mod SearchedBases
 mod StoreWalks
