@@ -8,10 +8,10 @@ use Rattle.gixobj_walks_marks.proofs.Marked.{one_contained, one_contains}
 use Rattle.gixobj_walks_marks.proofs.Paths.{ancestor_has_child, includes_parent, read_has_parent, reaches_itself, reaches_transitively, step_reaches}
 use Rattle.std.proofs.Common.{subst, sym}
 
-reached_from_one : {V : Type 0} (G : Graph V) (start id : V) → Reaches G start id → IsReachedFrom G (start ∷ []) id
+pub reached_from_one : {V : Type 0} (G : Graph V) (start id : V) → Reaches G start id → IsReachedFrom G (start ∷ []) id
 reached_from_one G start id path = (start, one_contains start, path)
 
-one_reaches : {V : Type 0} (G : Graph V) (start id : V) → IsReachedFrom G (start ∷ []) id → Reaches G start id
+pub one_reaches : {V : Type 0} (G : Graph V) (start id : V) → IsReachedFrom G (start ∷ []) id → Reaches G start id
 one_reaches {V} G start id reached = subst (λ (v : V). Reaches G v id) (sym (one_contained start reached.0 reached.1)) reached.2
 
 module _ {V : Type 0} (R G : Graph V) (one other : V) (included : IsIncluded R G) (functional : IsFunctional G)

@@ -2,7 +2,7 @@
 use Rattle.std.proofs.Common.{◌≡◌, ◌∙◌, ◌++◌, ◌⊎◌, ◌↔◌, ℕ, ◌+◌, ◌-◌, ◌<◌, ◌≤◌, Bool, true, false, List, [], ◌∷◌, set, replicate, ⊎_elim, refl, sym, ap, subst}
 use Rattle.std.proofs.Common.{length, length-append, length-set, arith}
 use Rattle.std.proofs.lemmas.List.{length-replicate}
-use Rattle.std.specs.Prelude.{Option, Some, None, Result, Ok, Err, IfNone, IfOk, IsTrue, slice_get}
+use Rattle.std.specs.Prelude.{Contains, Option, Some, None, Result, Ok, Err, IfNone, IfOk, IsTrue, slice_get}
 use Rattle.std.specs.List.{AllByRecursion, AllZip}
 use Rattle.gixobj_hash.specs.declared.hash.object_id.ObjectId.{ObjectId}
 use Rattle.gixobj_walks_graph.specs.Graph.{NodeView}
@@ -17,7 +17,7 @@ use Rattle.gixobj_walks_marks.proofs.Marked.{same_or_other, slice_get-set_other,
 use Rattle.gixobj_walks.proofs.GivenCommits.{get_in_shorter, given_one_more, length_longer, same_names}
 use Rattle.gixobj_walks.proofs.LargerGraphs.{all_weaker}
 use Rattle.gixobj_walks.proofs.NamedLists.{names_extend}
-use Rattle.gixobj_walks.proofs.NamedPaths.{below_of_name, name_below}
+use Rattle.gixobj_walks.proofs.NamedPaths.{below_of_name, name_below, number_of_contained}
 use Rattle.gixobj_walks.specs.Machine.{IsWalking, names_of, wanted_of}
 use Rattle.gixobj_walks.specs.Named.{AreDistinct, Extends, Names, named_graph}
 
@@ -51,6 +51,13 @@ pub below_of_zip : {V : Type 0} (ids : List V) (numbers : List ℕ) (names : Lis
 below_of_zip ids [] names zip = tt
 below_of_zip ids (number ∷ numbers) [] zip = absurd zip
 below_of_zip ids (number ∷ numbers) (name ∷ names) zip = (below_of_name ids number name zip.0, below_of_zip ids numbers names zip.1)
+
+-- a name of numbers has one of them
+pub number_of_name : {V : Type 0} (ids : List V) (numbers : List ℕ) → AllByRecursion (λ number. number < length ids) numbers
+    → (id : V) → Contains (names_of ids numbers) id → (number : ℕ) × Names ids number id
+number_of_name ids numbers below id has =
+    let it = number_of_contained ids numbers (names_of ids numbers) (names_of_zip ids numbers below) id has in
+    (it.0, it.1)
 
 length_extends : {V : Type 0} (old new : List V) → Extends old new → length old ≤ length new
 length_extends old new (more, is) = omega (arith, ap length is, length-append old more)

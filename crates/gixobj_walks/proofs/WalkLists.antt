@@ -13,10 +13,10 @@ use Rattle.gixobj_walks_graph.specs.Numbered.{IsMarked, Nodes, graph_at}
 use Rattle.gixobj_walks_graph.specs.Walks.{IsSelected, IsWalk}
 use Rattle.gixobj_walks_graph.specs.declared.order.Order.{Order}
 use Rattle.gixobj_walks_marks.proofs.Bottoms.{bottoms_are_reached, read_or_not}
-use Rattle.gixobj_walks_marks.proofs.Marked.{marked_within}
+use Rattle.gixobj_walks_marks.proofs.Marked.{marked_or_not, marked_within}
 use Rattle.gixobj_walks_marks.specs.Marks.{HasMarks}
-use Rattle.gixobj_walks_marks.proofs.Ends.{HaveBottoms}
-use Rattle.gixobj_walks_marks.proofs.Paths.{ancestor_has_child, includes_path, reached_from_reaches, reaches_parent}
+use Rattle.gixobj_walks_marks.proofs.Ends.{HaveBottoms, settled_walk_is_exact}
+use Rattle.gixobj_walks_marks.proofs.Paths.{ancestor_has_child, includes_path, includes_reached_from, reached_from_reaches, reaches_itself, reaches_parent}
 use Rattle.gixobj_walks_marks.specs.Readings.{ReadingView}
 use Rattle.gixobj_walks_marks.specs.Settled.{IsBottom, IsSettledWalk, IsWanted}
 use Rattle.gixobj_walks_order.proofs.Listings.{IsConvex, listing_is_children_first, listing_is_once}
@@ -307,20 +307,51 @@ module _ (ids : List ObjectId) (reading : ReadingView) (tips hidden : List ℕ) 
           (IsSelected (named_graph ids reading.nodes) (names_of ids tips) (names_of ids hidden)) (are_names d) order tips numbers
           is.tips_known listing)))
 
-    -- a walk over what was given is one over each graph that has it, if no commit is an ancestor of itself
-    pub walk_in_each : (F : ObjectId → Option (NodeView ObjectId)) → IsIncluded (named_graph ids reading.nodes) (graph_of F)
-        → IsAcyclic (graph_of F) → (order : Order) (names : List ObjectId)
-        → IsWalk (named_graph ids reading.nodes) order (names_of ids tips) (names_of ids hidden) names
-        → IsWalk (graph_of F) order (names_of ids tips) (names_of ids hidden) names
-    walk_in_each F included acyclic =
-        let given_acyclic : IsAcyclic (named_graph ids reading.nodes) = λ id path. acyclic id
-        (path.0, includes_path (named_graph ids reading.nodes) (graph_of F) included (suc path.0) id id path.1) in
-        let numbers_acyclic : IsAcyclic (graph_at reading.nodes) = λ number path.
-        let it = cycle_named number path in given_acyclic it.0 it.1 in
-        walk_of_settled (named_graph ids reading.nodes) (graph_of F) (names_of ids tips) (names_of ids hidden) included
-        (functional_of_function F) acyclic read_or_not_named
-        (have_bottoms_named (bottoms_are_reached reading.nodes tips hidden reading.left reading.right is.left is.right numbers_acyclic
-        hides_numbered)) end
+    -- ---- each graph that has what was given, if no commit is an ancestor of itself
+
+    module _ (F : ObjectId → Option (NodeView ObjectId)) (included : IsIncluded (named_graph ids reading.nodes) (graph_of F))
+        (acyclic : IsAcyclic (graph_of F)) where
+      bottoms_in_each : HaveBottoms (named_graph ids reading.nodes) (names_of ids tips) (names_of ids hidden)
+      bottoms_in_each =
+          let given_acyclic : IsAcyclic (named_graph ids reading.nodes) = λ id path. acyclic id
+          (path.0, includes_path (named_graph ids reading.nodes) (graph_of F) included (suc path.0) id id path.1) in
+          let numbers_acyclic : IsAcyclic (graph_at reading.nodes) = λ number path.
+          let it = cycle_named number path in given_acyclic it.0 it.1 in
+          have_bottoms_named (bottoms_are_reached reading.nodes tips hidden reading.left reading.right is.left is.right numbers_acyclic
+          hides_numbered)
+
+      -- a walk over what was given is one over it
+      pub walk_in_each : (order : Order) (names : List ObjectId)
+          → IsWalk (named_graph ids reading.nodes) order (names_of ids tips) (names_of ids hidden) names
+          → IsWalk (graph_of F) order (names_of ids tips) (names_of ids hidden) names
+      walk_in_each = walk_of_settled (named_graph ids reading.nodes) (graph_of F) (names_of ids tips) (names_of ids hidden) included
+          (functional_of_function F) acyclic read_or_not_named bottoms_in_each end
+
+      -- what is selected of what was given is selected in it
+      pub selected_in_each : (id : ObjectId) → IsSelected (named_graph ids reading.nodes) (names_of ids tips) (names_of ids hidden) id
+          ↔ IsSelected (graph_of F) (names_of ids tips) (names_of ids hidden) id
+      selected_in_each id =
+          let exact = settled_walk_is_exact (named_graph ids reading.nodes) (graph_of F) (names_of ids tips) (names_of ids hidden) included
+          (functional_of_function F) acyclic read_or_not_named bottoms_in_each end id in
+          ((λ small. exact.0 (selected_is_read id small, small)), (λ large. (exact.1 large).1))
+
+      -- a hidden commit reaches a tip in it exactly if the tip has the mark
+      pub hidden_in_each : (number : ℕ) (id : ObjectId) → Names ids number id → Contains (names_of ids tips) id
+          → IsMarked reading.right number ↔ IsReachedFrom (graph_of F) (names_of ids hidden) id
+      hidden_in_each number id name tip = (
+        (λ marked. includes_reached_from (named_graph ids reading.nodes) (graph_of F) included (names_of ids hidden) id
+            (reached_named ids reading.nodes is.known is.lengths hidden (names_of ids hidden) hidden_names number id
+            ((is.right number).0 marked) name)),
+        (λ reached. ⊎_elim (λ marked. marked)
+            (λ unmarked. absurd (((selected_in_each id).0 (record {
+              reached = (id, tip, reaches_itself (named_graph ids reading.nodes) id);
+              shown = λ hides.
+                  let it = reached_numbered ids reading.nodes is.distinct hidden (names_of ids hidden) hidden_names id hides in
+                  unmarked ((is.right number).1
+                  (subst (λ n. IsReachedFrom (graph_at reading.nodes) hidden n) (is.distinct it.0 number id it.1 name) it.2));
+            })).shown reached))
+            (marked_or_not reading.right number)),
+      )
 
 pub error_of_list : (walk : WalkView) (nodes : Nodes) (chosen : List Bool) (error : ListError)
     → (IsCycle (graph_at nodes) (IsMarked chosen) → (id : ObjectId) × HasAncestor (given_graph walk) id id)

@@ -1,14 +1,16 @@
 //! Walks over the commits of a history (git-rev-list, git-merge-base).
 //!
 //! A walk over the commits that are read is a walk over each graph with these commits, once reading has ended. Likewise
-//! for a search for merge bases.
+//! for a search for merge bases or for an ancestor.
 #![tactic(auto)]
 
+pub mod ancestor;
 pub mod bases;
 mod known;
 pub mod names;
 mod newest;
 pub mod walk;
 
+pub use ancestor::AncestorSearch;
 pub use bases::MergeBases;
 pub use walk::Walk;

@@ -1,8 +1,8 @@
 //! A walk that requests the commits that it needs.
 ghost use Rattle.std.specs.Prelude.{◌≡◌, ◌↔◌, ◌⊎◌, ◌+◌, ◌≤◌, None, Some, ℕ, List, Option, IfErr, IfNone, IfOk};
-ghost use Rattle.std.specs.Prelude.{IfSome, IsSome, IsTrue, Contains};
+ghost use Rattle.std.specs.Prelude.{Contains, IfSome, IsSome, IsTrue};
 ghost use Rattle.gixobj_hash.specs.declared.hash.object_id.ObjectId.{ObjectId as Id};
-ghost use Rattle.gixobj_walks_graph.specs.Graph.{IsAcyclic, IsIncluded, NodeView};
+ghost use Rattle.gixobj_walks_graph.specs.Graph.{IsAcyclic, IsIncluded, IsReachedFrom, NodeView};
 ghost use Rattle.gixobj_walks_graph.specs.Walks.{IsWalk};
 ghost use Rattle.gixobj_walks_marks.specs.Readings.{reads};
 ghost use Rattle.gixobj_walks_graph.specs.Numbered.{graph_at};
@@ -163,6 +163,25 @@ impl Walk {
         let chosen = selected(alloc, reading.left(), reading.right())?;
         let numbers = list_in_order(alloc, reading.nodes(), &chosen, &self.tips, order)?;
         Ok(ids_of(alloc, &self.known.names, &numbers)?)
+    }
+
+    /// Tests whether a hidden commit reaches a tip. The walk needs no more commits. Allocates nothing.
+    ///
+    /// So it is in each graph with the commits that were given, if no commit is an ancestor of itself.
+    pub fn is_hidden(&self, tip: &ObjectId) -> bool
+        requires ended { self.now.wanted ≡ None }
+        requires tip { Contains self.now.tips tip.now }
+        ensures exact { (commits : Id → Option (NodeView Id))
+            → IsIncluded (given_graph self.now) (graph_of commits) → IsAcyclic (graph_of commits)
+            → IsTrue result ↔ IsReachedFrom (graph_of commits) self.now.hidden tip.now }
+    {
+        let None = self.next_wanted() else {
+            unreachable!()
+        };
+        match self.known.names.number_of(tip) {
+            Some(number) => self.known.reading.is_right(number),
+            None => false,
+        }
     }
 }
 
