@@ -1,5 +1,6 @@
 pub mod BaseEnds
 mod CommitNumbers
+mod Differences
 mod IdOrder
 mod KnownIds
 mod LargerGraphs

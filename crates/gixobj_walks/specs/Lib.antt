@@ -1,3 +1,4 @@
+pub mod Difference
 pub mod Machine
 pub mod Named
 pub mod Newest
