@@ -13,7 +13,7 @@ use Rattle.std.specs.Prelude.{Contains}
 use Rattle.gixobj_hash.specs.Hash.Order.{id_cmp}
 use Rattle.gixobj_hash.specs.Hash.OrderLaws.{id_cmp_total}
 use Rattle.gixobj_hash.specs.declared.hash.object_id.ObjectId.{ObjectId}
-use Rattle.gixobj_walks_graph.specs.Graph.{AreOnce, EachLater, Graph, IsFunctional, NodeView}
+use Rattle.gixobj_walks_graph.specs.Graph.{AreOnce, EachLater, Graph, IsFunctional, IsIncluded, NodeView}
 use Rattle.gixobj_walks_graph.specs.Numbered.{AreParentsKnown, Nodes}
 use Rattle.gixobj_walks_marks.proofs.Marked.{one_contained}
 use Rattle.gixobj_walks.proofs.IdOrder.{same_id_of_is_eq}
@@ -141,6 +141,71 @@ before_differs G functional id other before same =
 pub once_of_newest : (G : Graph ObjectId) → IsFunctional G → (ids : List ObjectId) → AreNewestFirst G ids → AreOnce ids
 once_of_newest G functional ids first =
     each_later_weaker (ComesBefore G) (λ x y. x ≢ y) (before_differs G functional) ids first
+
+-- the order is that of each larger graph
+pub newest_in_larger : (R G : Graph ObjectId) → IsIncluded R G → (ids : List ObjectId) → AreNewestFirst R ids → AreNewestFirst G ids
+newest_in_larger R G included ids first = each_later_weaker (ComesBefore R) (ComesBefore G)
+    (λ id other before. record {
+      node = before.node;
+      other_node = before.other_node;
+      named = included id before.node before.named;
+      other_named = included other before.other_node before.other_named;
+      order = before.order;
+    }) ids first
+
+-- ---- one list
+
+not_less_both : (id other : ObjectId) → id_cmp id other ≡ Less → ¬ (id_cmp other id ≡ Less)
+not_less_both id other less more = not_less_than_itself id (id_cmp_total.trans id other id less more)
+
+-- no commit comes before one that comes before it
+never_before : (G : Graph ObjectId) → IsFunctional G → (id other : ObjectId) → ComesBefore G id other → ¬ ComesBefore G other id
+never_before G functional id other before after =
+    let first : before.node.seconds ≡ after.other_node.seconds =
+    ap (λ (n : NodeView ObjectId). n.seconds) (functional id before.node after.other_node before.named after.other_named) in
+    let second : before.other_node.seconds ≡ after.node.seconds =
+    ap (λ (n : NodeView ObjectId). n.seconds) (functional other before.other_node after.node before.other_named after.named) in
+    ⊎_elim
+    (λ newer. ⊎_elim
+    (λ other_newer. omega (arith, newer, other_newer, first, second))
+    (λ tied. omega (arith, newer, tied.0, first, second)) after.order)
+    (λ tied. ⊎_elim
+    (λ other_newer. omega (arith, tied.0, other_newer, first, second))
+    (λ both. not_less_both id other tied.1 both.1) after.order)
+    before.order
+
+before_at : (G : Graph ObjectId) (id other : ObjectId) (ids : List ObjectId) → AllByRecursion (ComesBefore G id) ids
+    → Contains ids other → ComesBefore G id other
+before_at G id other [] all has = absurd (contained_none other has)
+before_at G id other (x ∷ ids) all has = ⊎_elim (λ same. subst (λ v. ComesBefore G id v) same all.0)
+    (λ later. before_at G id other ids all.1 later) (contained_cases x other ids has)
+
+-- what a list has after its first commit is there in the other list with the same first commit
+rest_has : (G : Graph ObjectId) → IsFunctional G → (x y : ObjectId) (xs ys : List ObjectId) → x ≡ y
+    → AllByRecursion (ComesBefore G x) xs → ((id : ObjectId) → Contains (x ∷ xs) id → Contains (y ∷ ys) id)
+    → (id : ObjectId) → Contains xs id → Contains ys id
+rest_has G functional x y xs ys same before has id later = ⊎_elim
+    (λ first. absurd (before_differs G functional x id (before_at G x id xs before later) (same ∙ first)))
+    (λ rest. rest) (contained_cases y id ys (has id (contained_later x xs id later)))
+
+-- two lists with the newest first that have the same commits are the same
+pub same_newest : (G : Graph ObjectId) → IsFunctional G → (xs ys : List ObjectId) → AreNewestFirst G xs → AreNewestFirst G ys
+    → ((id : ObjectId) → Contains xs id ↔ Contains ys id) → xs ≡ ys
+same_newest G functional [] [] first second same = refl
+same_newest G functional [] (y ∷ ys) first second same = absurd (contained_none y ((same y).1 (contained_first y y ys refl)))
+same_newest G functional (x ∷ xs) [] first second same = absurd (contained_none x ((same x).0 (contained_first x x xs refl)))
+same_newest G functional (x ∷ xs) (y ∷ ys) first second same =
+    let here : x ≡ y = ⊎_elim (λ is. sym is)
+    (λ later. ⊎_elim (λ is. is)
+    (λ after. absurd (never_before G functional x y (before_at G x y xs first.0 after) (before_at G y x ys second.0 later)))
+    (contained_cases x y xs ((same y).1 (contained_first y y ys refl))))
+    (contained_cases y x ys ((same x).0 (contained_first x x xs refl))) in
+    let rest = same_newest G functional xs ys first.1 second.1
+    (λ id. (
+      rest_has G functional x y xs ys here first.0 (λ v. (same v).0) id,
+      rest_has G functional y x ys xs (sym here) second.0 (λ v. (same v).1) id,
+    )) in
+    λ i. here i ∷ rest i
 
 module _ (ids : List ObjectId) (nodes : Nodes) where
   -- ---- one more commit

@@ -157,7 +157,9 @@ impl MergeBases {
         ensures exact { IfOk result (λ ids. (commits : Id → Option (NodeView Id))
             → IsIncluded (searched_graph self.now) (graph_of commits) → IsAcyclic (graph_of commits)
             → AreMergeBases (graph_of commits) self.now.one self.now.other ids.items) }
-        ensures order { IfOk result (λ ids. AreNewestFirst (searched_graph self.now) ids.items) }
+        ensures order { IfOk result (λ ids. (commits : Id → Option (NodeView Id))
+            → IsIncluded (searched_graph self.now) (graph_of commits)
+            → AreNewestFirst (graph_of commits) ids.items) }
     {
         let None = self.next_wanted() else {
             unreachable!()

@@ -8,6 +8,7 @@ pub mod ancestor;
 pub mod bases;
 pub mod difference;
 mod known;
+pub mod laws;
 pub mod names;
 mod newest;
 pub mod walk;

@@ -7,7 +7,9 @@ use Rattle.gixobj_walks_graph.specs.Graph.{IsAcyclic, IsIncluded, NodeView}
 use Rattle.gixobj_walks_graph.specs.Numbered.{Nodes, graph_at}
 use Rattle.gixobj_walks_marks.specs.Marks.{HasMarks}
 use Rattle.gixobj_walks_marks.specs.Settled.{IsCandidate, IsSettledBases}
-use Rattle.gixobj_walks.specs.Named.{graph_of}
+use Rattle.gixobj_walks.specs.Named.{graph_of, named_graph}
+use Rattle.gixobj_walks.specs.Newest.{AreNewestFirst}
+use Rattle.gixobj_walks.proofs.NewestLists.{newest_in_larger}
 use Rattle.gixobj_walks.specs.Search.{SearchView, searched_graph}
 use Rattle.gixobj_walks.proofs.Machines.{ok_of_both}
 use Rattle.gixobj_walks.proofs.Searches.{bases_in_each, bases_of_given, candidates_are_read}
@@ -59,3 +61,10 @@ returns-clause-exact c =
     (ok_of_both c.newest_first.result c.newest_first.ensures.exact c.newest_first.ensures.order
     (λ ids named first. bases_in_each c.self.inside.known.names c.self.inside.known.reading c.self.inside.one c.self.inside.other
     c.self.inside.is_settled _ c.self.invariant c.deref.result.now exact ids.items named first end))
+
+pub returns-clause-order : goal.returns-clause-order
+returns-clause-order c = subst (λ (s : SearchView). IfOk c.newest_first.result (λ ids. (commits : ObjectId → Option (NodeView ObjectId))
+    → IsIncluded (searched_graph s) (graph_of commits) → AreNewestFirst (graph_of commits) ids.items)) c.self.view_is
+    (ok_of_both c.newest_first.result c.newest_first.ensures.order c.newest_first.ensures.order
+    (λ ids first again commits included.
+    newest_in_larger (named_graph c.self.inside.known.names c.self.inside.known.reading.nodes) (graph_of commits) included ids.items first))
