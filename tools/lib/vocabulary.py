@@ -98,8 +98,6 @@ ALLOWED = {
 ALLOWED_IN = {
     "words": ("gixobj_signature_reports gixobj_signature gixobj_tests_signatures gixobj_tests_replay_messages", "public: Call::words"),
     "word": ("gixobj_signature_reports gixobj_signature", "the cases of Word, as definitions name them"),
-    "behind": ("gixobj_walks_known", "git's word: git-for-each-ref, `ahead-behind`"),
-    "ahead_behind": ("gixobj_walks_known", "public"),
 }
 
 # Tests and mutants of these names are due, so what begins with one of them keeps its name.

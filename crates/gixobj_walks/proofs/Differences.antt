@@ -7,7 +7,7 @@ use Rattle.std.specs.List.{AllByRecursion, AllPairs, AllZip}
 use Rattle.std.specs.List.Sorted.{IsStrictlyIncreasing}
 use Rattle.std.specs.Prelude.{Contains, IsTrue, Option}
 use Rattle.gixobj_hash.specs.declared.hash.object_id.ObjectId.{ObjectId}
-use Rattle.gixobj_walks_graph.specs.Graph.{AreOnce, EachLater, IsAcyclic, IsIncluded, IsRead, NodeView}
+use Rattle.gixobj_walks_graph.specs.Graph.{AreOnce, EachLater, HasCount, IsAcyclic, IsIncluded, IsRead, NodeView}
 use Rattle.gixobj_walks_graph.specs.Numbered.{graph_at}
 use Rattle.gixobj_walks_graph.specs.Walks.{IsSelected}
 use Rattle.gixobj_walks_marks.proofs.Bottoms.{selected_by_marks}
@@ -21,7 +21,7 @@ use Rattle.gixobj_walks.proofs.Machines.{names_of_found, names_of_zip, settled_o
 use Rattle.gixobj_walks.proofs.NamedEnds.{settled_walk_named}
 use Rattle.gixobj_walks.proofs.NamedWalks.{once_named, selected_are_named}
 use Rattle.gixobj_walks.proofs.WalkLists.{selected_in_each}
-use Rattle.gixobj_walks.specs.Difference.{AreSettledApart, HasChosenCount, HasCount}
+use Rattle.gixobj_walks.specs.Difference.{AreSettledApart, HasChosenCount}
 use Rattle.gixobj_walks.specs.Machine.{IsWalking, names_of}
 use Rattle.gixobj_walks.specs.Named.{Names, graph_of, named_graph}
 use Rattle.gixobj_walks.specs.Search.{IsSearching}

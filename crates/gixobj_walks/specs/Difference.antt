@@ -1,15 +1,8 @@
 -- How many commits only one of two commits reaches (git-rev-list, `--left-right --count A...B`).
-use Rattle.std.specs.Prelude.{◌≡◌, ◌↔◌, ◌≤◌, ℕ, Bool, List, [], ◌∷◌, Contains, length}
-use Rattle.gixobj_walks_graph.specs.Graph.{AreOnce, Graph}
+use Rattle.std.specs.Prelude.{◌≡◌, ◌≤◌, ℕ, Bool, List, [], ◌∷◌, length}
+use Rattle.gixobj_walks_graph.specs.Graph.{Graph}
 use Rattle.gixobj_walks_marks.specs.Chosen.{IsChosen, ListsBelow}
 use Rattle.gixobj_walks_marks.specs.Settled.{IsSettledWalk}
-
--- the number of those of which `P` holds
-pub record HasCount {V : Type 0} (P : V → Type 0) (count : ℕ) : Type 0 where
-  pub ids : List V
-  pub exact : (id : V) → Contains ids id ↔ P id
-  pub once : AreOnce ids
-  pub count_is : count ≡ length ids
 
 -- what is not read changes nothing of what one of the commits reaches and the other doesn't
 pub record AreSettledApart {V : Type 0} (R : Graph V) (one other : V) : Type 0 where

@@ -2,30 +2,22 @@
 ghost use Rattle.std.specs.Prelude.{◌≡◌, ◌↔◌, ◌⊎◌, ◌+◌, ◌<◌, ◌∷◌, [], None, Some, ℕ, Option, IfNone, IfOk};
 ghost use Rattle.std.specs.Prelude.{IsSome, IsTrue, length};
 ghost use Rattle.gixobj_hash.specs.declared.hash.object_id.ObjectId.{ObjectId as Id};
-ghost use Rattle.gixobj_walks_graph.specs.Graph.{IsAcyclic, IsIncluded, NodeView};
+ghost use Rattle.gixobj_walks_graph.specs.Graph.{HasCount, IsAcyclic, IsIncluded, NodeView};
 ghost use Rattle.gixobj_walks_graph.specs.Numbered.{graph_at};
 ghost use Rattle.gixobj_walks_graph.specs.Walks.{IsSelected};
 ghost use Rattle.gixobj_walks_marks.specs.Chosen.{IsChosen};
 ghost use Rattle.gixobj_walks_marks.specs.Marks.{HasMarks};
 ghost use Rattle.gixobj_walks_marks.specs.Readings.{reads};
-ghost use Rattle.gixobj_walks.specs.Difference.{AreSettledApart, HasChosenCount, HasCount};
+ghost use Rattle.gixobj_walks.specs.Difference.{AreSettledApart, HasChosenCount};
 ghost use Rattle.gixobj_walks.specs.Named.{graph_of};
 ghost use Rattle.gixobj_walks.specs.Search.{searched_graph};
 
 use crate::known::{KnownCommits, test_after};
 use gixobj_hash::hash::ObjectId;
-use gixobj_walks_marks::{Reading, is_settled_walk};
+use gixobj_walks_graph::LeftRightCount;
+use gixobj_walks_marks::{Reading, is_chosen, is_settled_walk};
 use std::alloc::{AllocError, Global};
 use std::marker::Model;
-
-/// How many commits only one of two commits reaches.
-#[derive(Clone, Copy, Debug, PartialEq, Eq)]
-pub struct LeftRightCount {
-    /// The number of those that the one reaches, and the other doesn't.
-    pub left: usize,
-    /// The number of those that the other reaches, and the one doesn't.
-    pub right: usize,
-}
 
 /// A count of the commits of a symmetric difference: those that only one of two commits reaches (git-rev-list,
 /// `--left-right --count A...B`).
@@ -204,13 +196,4 @@ fn count_chosen(left: &[bool], right: &[bool]) -> usize
         }
     }
     count
-}
-
-// Tests whether the left side has a commit, and the right side doesn't.
-fn is_chosen(left: &[bool], right: &[bool], number: usize) -> bool
-    requires left { number < length left.now }
-    requires right { number < length right.now }
-    ensures { IsTrue result ↔ IsChosen left.now right.now number }
-{
-    if left[number] { !right[number] } else { false }
 }

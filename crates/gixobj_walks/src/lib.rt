@@ -15,5 +15,6 @@ pub mod walk;
 
 pub use ancestor::AncestorSearch;
 pub use bases::MergeBases;
-pub use difference::{LeftRightCount, SymmetricDifference};
+pub use difference::SymmetricDifference;
+pub use gixobj_walks_graph::LeftRightCount;
 pub use walk::Walk;

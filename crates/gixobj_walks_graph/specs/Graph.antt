@@ -1,5 +1,5 @@
 -- Commits and their parents as a graph: which commits one reaches (gitglossary, "DAG", "parent", "reachable").
-use Rattle.std.specs.Prelude.{◌≡◌, ◌≢◌, ℕ, zero, suc, List, [], ◌∷◌, Contains}
+use Rattle.std.specs.Prelude.{◌≡◌, ◌≢◌, ◌↔◌, ℕ, zero, suc, List, [], ◌∷◌, Contains, length}
 use Rattle.std.specs.List.{AllByRecursion}
 
 -- a commit as walks see it: its parents in the order of its lines, and the seconds of its committer
@@ -58,3 +58,10 @@ EachLater R (x ∷ xs) = AllByRecursion (R x) xs × EachLater R xs
 -- each commit once
 abbrev pub AreOnce : {V : Type 0} → List V → Type 0
 AreOnce ids = EachLater (λ x y. x ≢ y) ids
+
+-- as many commits as `P` holds of
+pub record HasCount {V : Type 0} (P : V → Type 0) (count : ℕ) : Type 0 where
+  pub ids : List V
+  pub exact : (id : V) → Contains ids id ↔ P id
+  pub once : AreOnce ids
+  pub count_is : count ≡ length ids

@@ -1,7 +1,7 @@
--- Graphs that are known, and what is counted in them.
-use Rattle.std.specs.Prelude.{◌≡◌, ◌<◌, ◌↔◌, ℕ, List, Option, Some, Contains, length}
+-- Graphs that are known.
+use Rattle.std.specs.Prelude.{◌≡◌, ◌<◌, ℕ, List, Option, Some, length}
 use Rattle.std.specs.List.{AllByRecursion}
-use Rattle.gixobj_walks_graph.specs.Graph.{AreOnce, Graph, IsRead, NodeView}
+use Rattle.gixobj_walks_graph.specs.Graph.{IsRead, NodeView}
 use Rattle.gixobj_walks_graph.specs.Numbered.{AreParentsKnown, Nodes, graph_at}
 use Rattle.gixobj_walks_graph.specs.Walks.{IsSelected}
 use Rattle.gixobj_walks_order.specs.Listed.{IsCycle}
@@ -17,13 +17,6 @@ pub record IsKnownGraph (nodes : Nodes) : Type 0 where
 abbrev pub IsKnownEntry : ℕ → Option (NodeView ℕ) → Type 0
 IsKnownEntry count entry = (node : NodeView ℕ) × (entry ≡ Some node)
     × AllByRecursion (λ parent. parent < count) node.parents
-
--- as many commits are selected by `TIPS ^HIDDEN` (git-rev-list, `--count`)
-pub record IsCount {V : Type 0} (G : Graph V) (tips hidden : List V) (count : ℕ) : Type 0 where
-  pub ids : List V
-  pub exact : (id : V) → Contains ids id ↔ IsSelected G tips hidden id
-  pub once : AreOnce ids
-  pub counted : count ≡ length ids
 
 -- when no list is made: a selected commit is an ancestor of itself, by way of selected ones, or memory ran out where
 -- there is a commit

@@ -8,8 +8,8 @@ ghost use Rattle.gixobj_walks_marks.specs.Chosen.{AreWantedMarked, IsBottomAt, I
 use gixobj_walks_graph::Node;
 use std::alloc::{AllocError, Global};
 
-/// Tests whether the left side has a commit, and the right side doesn't.
-pub(crate) fn is_chosen(left: &[bool], right: &[bool], number: usize) -> bool
+/// Tests whether the left side has a commit, and the right side doesn't. Allocates nothing.
+pub fn is_chosen(left: &[bool], right: &[bool], number: usize) -> bool
     requires left { number < length left.now }
     requires right { number < length right.now }
     ensures { IsTrue result ↔ IsChosen left.now right.now number }

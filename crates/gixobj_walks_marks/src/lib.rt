@@ -13,6 +13,7 @@ mod settled;
 mod settled_bases;
 
 pub use bases::{candidates, selected};
+pub use chosen::is_chosen;
 pub use marking::mark_reached;
 pub use reached::reachable;
 pub use reading::Reading;

@@ -1,8 +1,8 @@
 -- Each side is counted by its marks.
 use Rattle.std.proofs.Common.{Bool, [], ◌∷◌, List, length, subst, sym}
-use Rattle.gixobj_walks_graph.specs.Graph.{IsIncluded}
+use Rattle.gixobj_walks_graph.specs.Graph.{HasCount, IsIncluded}
 use Rattle.gixobj_walks_graph.specs.Walks.{IsSelected}
-use Rattle.gixobj_walks.specs.Difference.{AreSettledApart, HasChosenCount, HasCount}
+use Rattle.gixobj_walks.specs.Difference.{AreSettledApart, HasChosenCount}
 use Rattle.gixobj_walks.specs.Named.{graph_of}
 use Rattle.gixobj_walks.specs.Search.{SearchView, searched_graph}
 use Rattle.gixobj_walks.proofs.Differences.{count_left, count_right}
