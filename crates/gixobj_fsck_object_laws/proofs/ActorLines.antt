@@ -104,7 +104,8 @@ time_split (byte ∷ bytes) = go (time_split bytes) (is_time_byte byte) refl
 
 -- ---- the parts of a line
 
-name_bytes_free : (bytes : List ℕ) → list_all (is_of_class class.Name) bytes ≡ true → IsByteFree 60 bytes × IsByteFree 10 bytes
+-- bytes of a name are no `<` and no newline
+pub name_bytes_free : (bytes : List ℕ) → list_all (is_of_class class.Name) bytes ≡ true → IsByteFree 60 bytes × IsByteFree 10 bytes
 name_bytes_free [] all = (All-nil (λ it. it ≢ 60), All-nil (λ it. it ≢ 10))
 name_bytes_free (byte ∷ bytes) all =
     let parts = and_parts (is_of_class class.Name byte) (list_all (is_of_class class.Name) bytes) all in

@@ -3,6 +3,7 @@ pub mod AboutTags
 pub mod ActorLines
 pub mod CleanCommits
 pub mod CleanTags
+pub mod DecodedTags
 pub mod Ended
 pub mod Kept
 pub mod Unreported

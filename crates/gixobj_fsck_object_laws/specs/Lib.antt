@@ -1,4 +1,5 @@
 pub mod CleanCommits
 pub mod CleanTags
+pub mod DecodedTags
 pub mod Reported
 pub mod Unreported

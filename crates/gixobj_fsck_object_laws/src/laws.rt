@@ -3,6 +3,7 @@ ghost use Rattle.std.specs.Prelude.{List, ℕ};
 ghost use Rattle.gixobj_fsck_messages.specs.Options.{severity_by};
 ghost use Rattle.gixobj_fsck_object_laws.specs.CleanCommits.{DecodesIfPlain, HasPeopleIfClean, IsCleanIfNotFound};
 ghost use Rattle.gixobj_fsck_object_laws.specs.CleanTags.{DecodesIfClean, DecodesIfNotFound};
+ghost use Rattle.gixobj_fsck_object_laws.specs.DecodedTags.{HasLimitedMessages};
 ghost use Rattle.gixobj_fsck_object_laws.specs.Reported.{HaveMessagesOfCommits, HaveMessagesOfTags};
 ghost use Rattle.gixobj_fsck_object_laws.specs.Unreported.{HaveNoUnreported};
 ghost use Rattle.gixobj_hash.specs.declared.hash.kind.Kind.{Kind as KindType};
@@ -70,3 +71,9 @@ pub fn findings_have_no_unreported(
 {
     tree_findings_are_about_trees(content, hash_kind, options);
 }
+
+/// Git's messages about a tag that decodes are `nulInHeader`, `badTagName`, `missingTaggerEntry` and those about the
+/// tagger, except `missingEmail`. The tag has no extra header.
+pub fn decoded_tag_has_limited_messages()
+    ensures { (kind : KindType) (tag : List ℕ) → HasLimitedMessages kind tag }
+{}
