@@ -1,5 +1,5 @@
 -- Results of the call that lists git's findings about an object (git-fsck, "FSCK MESSAGES").
-use Rattle.std.specs.Prelude.{◌≡◌, ◌<◌, ◌⊎◌, ◌++◌, ℕ, Bool, List, Option, Some, drop, length, map, ⊤}
+use Rattle.std.specs.Prelude.{◌≡◌, ◌<◌, ◌⊎◌, ◌++◌, ℕ, Bool, List, Option, Some, drop, length, map}
 use Rattle.gixobj_c_codes.specs.Codes.{buffer_too_short, done, out_of_memory, unknown_code}
 use Rattle.gixobj_c_fsck.specs.Codes.{severity_code}
 use Rattle.gixobj_c_fsck.specs.declared.findings.FindingParts.{FindingParts}
@@ -9,11 +9,9 @@ use Rattle.gixobj_fsck_messages.specs.Options.{is_strict_by, severity_by}
 use Rattle.gixobj_fsck_messages.specs.Severities.{severity_of}
 use Rattle.gixobj_fsck_messages.specs.declared.finding.Finding.{Finding}
 use Rattle.gixobj_fsck_messages.specs.declared.options.Options.{Options}
-use Rattle.gixobj_fsck_objects.specs.Objects.{AreFindings}
-use Rattle.gixobj_fsck_tree_findings.specs.TreeFindings.{AllocatesFindings}
+use Rattle.gixobj_fsck_objects.specs.Objects.{AreFindings, MayAllocateFindings}
 use Rattle.gixobj_hash.specs.declared.hash.kind.Kind as hash
 use Rattle.gixobj_hash.specs.declared.kind.Kind.{Kind}
-use Rattle.gixobj_hash.specs.declared.kind.Kind.TheVariants as kind
 
 -- the offset of a finding, and the numbers of its message and of the severity in this check
 abbrev pub finding_parts : Bool → Finding → FindingParts
@@ -34,13 +32,6 @@ WritesFindings strict findings before after count status = (count ≡ length fin
     × (((status ≡ done) × (after ≡ map (finding_parts strict) findings ++ drop (length findings) before))
     ⊎ ((status ≡ buffer_too_short) × (length before < length findings) × (after ≡ before)))
 
--- an allocation may be tried: for an entry or a finding of a tree; or for a commit or a tag, of which no more is said
-abbrev pub MayAllocateFindings : Options → hash.Kind → Kind → List ℕ → Type 0
-MayAllocateFindings options hash kind.Tree bytes = AllocatesFindings hash options bytes
-MayAllocateFindings options hash kind.Blob bytes = ⊥
-MayAllocateFindings options hash kind.Commit bytes = ⊤
-MayAllocateFindings options hash kind.Tag bytes = ⊤
-
 -- exactly git's findings are listed, in a check without overrides; or an allocation failed or a number is unknown, and
 -- then nothing is written
 abbrev pub IsFindingsCall : Option hash.Kind → Option Kind → Option Bool → List ℕ → List FindingParts
@@ -49,7 +40,7 @@ IsFindingsCall (Some hash) (Some kind) (Some strict) bytes before after count_be
     (options : Options) × HasNoOverrides strict options
     × (((findings : List Finding) × AreFindings options kind hash bytes findings
     × WritesFindings strict findings before after count status)
-    ⊎ ((status ≡ out_of_memory) × MayAllocateFindings options hash kind bytes × (after ≡ before)
+    ⊎ ((status ≡ out_of_memory) × MayAllocateFindings options kind hash bytes × (after ≡ before)
     × (count ≡ count_before)))
 IsFindingsCall _ _ _ bytes before after count_before count status =
     (status ≡ unknown_code) × (after ≡ before) × (count ≡ count_before)

@@ -1,19 +1,17 @@
 //! Git's findings about an object: its messages in git's order, each at its offset.
-ghost use Rattle.std.specs.Prelude.{◌≡◌, IfOk, OnErr, Some};
+ghost use Rattle.std.specs.Prelude.{◌≡◌, Some};
 ghost use Rattle.gixobj_c_codes.specs.Codes.{hash_of_code as hash_of, kind_of_code as kind_of};
 ghost use Rattle.gixobj_c_fsck.specs.Codes.{strict_of_code as strict_of};
-ghost use Rattle.gixobj_c_fsck.specs.Findings.{IsFindingsCall, MayAllocateFindings, WritesFindings, finding_parts};
-ghost use Rattle.gixobj_fsck_objects.specs.Objects.{AreFindings};
+ghost use Rattle.gixobj_c_fsck.specs.Findings.{IsFindingsCall, WritesFindings, finding_parts};
 
 use crate::messages::{severity_number, strictness};
 use gixobj_c_codes::codes::{
     BUFFER_TOO_SHORT, DONE, OUT_OF_MEMORY, UNKNOWN_CODE, hash_of_code, kind_of_code,
 };
-use gixobj_fsck_findings::{fsck_commit, fsck_tag};
 use gixobj_fsck_messages::{Finding, Options};
-use gixobj_fsck_tree_findings::fsck_tree;
+use gixobj_fsck_objects::fsck;
 use gixobj_hash::{Kind, hash};
-use std::alloc::{AllocError, Global};
+use std::alloc::Global;
 
 /// A message about an object.
 #[repr(C)]
@@ -66,28 +64,9 @@ fn list_findings(
     ensures { IsFindingsCall (Some hash) (Some kind) (Some strict) bytes.now out.old
         out.new count.old count.new result }
 {
-    match findings_of(alloc, hash, kind, bytes, &Options::new(strict)) {
+    match fsck(alloc, kind, hash, bytes, &Options::new(strict)) {
         Ok(findings) => write_findings(&findings, strict, out, count),
         Err(_) => OUT_OF_MEMORY,
-    }
-}
-
-/// Returns the findings about an object.
-fn findings_of(
-    alloc: Global,
-    hash: hash::Kind,
-    kind: Kind,
-    bytes: &[u8],
-    options: &Options,
-) -> Result<Vec<Finding>, AllocError>
-    ensures found { IfOk result (λ it. AreFindings options.now kind hash bytes.now it.items) }
-    ensures error { OnErr result (MayAllocateFindings options.now hash kind bytes.now) }
-{
-    match kind {
-        Kind::Tree => fsck_tree(alloc, bytes, hash, options),
-        Kind::Blob => Ok(Vec::new(alloc)),
-        Kind::Commit => fsck_commit(alloc, hash, bytes, options),
-        Kind::Tag => fsck_tag(alloc, hash, bytes, options),
     }
 }
 
