@@ -4,6 +4,8 @@
 //! Prints how many results agree, and each row that differs.
 #![tactic(auto)]
 
+#[cfg(test)]
+mod calls;
 mod graphs;
 mod walks;
 
