@@ -2,7 +2,7 @@
 ghost use Rattle.std.specs.Prelude.{IsSome};
 
 use crate::graphs::id_of;
-use crate::walks::listed;
+use crate::walks::{bases_of, listed};
 use gixobj_hash::hash::ObjectId;
 use gixobj_walks::Walk;
 use gixobj_walks_graph::Order;
@@ -35,6 +35,31 @@ fn lists_commits_whatever_allocation_fails(rt: HostRuntime) {
     assert!(rt; are_listed(&by_topology), "{by_topology:?}");
     let by_date = listed_again(rt.alloc(), Order::Date);
     assert!(rt; are_listed(&by_date), "{by_date:?}");
+}
+
+/// The merge bases of `C` and `D`, again after a failed allocation. In the table, `criss-cross`, they are `B` and `A`.
+fn bases_again(alloc: Global) -> Result<Vec<ObjectId>, AllocError> {
+    let (graph, one, other) = (
+        b"r@1<;A@2<r;B@3<r;C@4<A,B;D@5<B,A".as_slice(),
+        id_of(b"C"),
+        id_of(b"D"),
+    );
+    match bases_of(alloc, graph, one, other) {
+        Ok(bases) => Ok(bases),
+        Err(_) => bases_of(alloc, graph, one, other),
+    }
+}
+
+#[test]
+fn lists_merge_bases_whatever_allocation_fails(rt: HostRuntime) {
+    let Ok(bases) = bases_again(rt.alloc()) else {
+        assert!(rt; false, "out of memory");
+        return;
+    };
+    assert!(rt;
+        bases.as_slice() == [id_of(b"B"), id_of(b"A")].as_slice(),
+        "{bases:?}"
+    );
 }
 
 /// Two commits, each the parent of the other, are an error of the list.

@@ -5,8 +5,8 @@ use crate::graphs::{commit_of, id_of, ids_of, name_of};
 use gixobj_hash::hash::ObjectId;
 use gixobj_tests_recorded::answer::Answer;
 use gixobj_tests_recorded::fields::{split_at_first, yes_or_no};
-use gixobj_walks::Walk;
-use gixobj_walks_graph::Order;
+use gixobj_walks::{AncestorSearch, MergeBases, SymmetricDifference, Walk};
+use gixobj_walks_graph::{LeftRightCount, Order};
 use gixobj_walks_order::ListError;
 use std::alloc::{AllocError, Global};
 
@@ -64,73 +64,123 @@ fn push_reversed(graph: &[u8], commits: &[u8], answer: &mut Answer) -> Result<()
 /// Appends how many commits the first of two commits reaches that the second doesn't, and the other way round.
 fn push_counts(graph: &[u8], commits: &[u8], answer: &mut Answer) -> Result<(), ListError> {
     let (one, other) = pair_of(commits);
-    let left = listed(answer.alloc, graph, &[one], &[other], Order::Date)?;
-    let right = listed(answer.alloc, graph, &[other], &[one], Order::Date)?;
-    answer.push_shown(left.len());
-    answer.add_shown(right.len());
+    let counts = counts_of(answer.alloc, graph, one, other)?;
+    answer.push_shown(counts.left);
+    answer.add_shown(counts.right);
     Ok(())
 }
 
-/// Appends whether the second of two commits reaches the first: then a walk from the first without what the second
-/// reaches lists nothing.
+/// Appends whether the second of two commits reaches the first.
 fn push_is_ancestor(graph: &[u8], commits: &[u8], answer: &mut Answer) -> Result<(), ListError> {
     let (one, other) = pair_of(commits);
-    let ids = listed(answer.alloc, graph, &[one], &[other], Order::Date)?;
-    answer.push(yes_or_no(ids.is_empty()).as_bytes());
+    let is_ancestor = is_ancestor_in(answer.alloc, graph, one, other)?;
+    answer.push(yes_or_no(is_ancestor).as_bytes());
     Ok(())
 }
 
-/// Appends the merge bases of two commits, those of one time by their ids: what the common ancestors reach without
-/// what their parents reach.
+/// Appends the merge bases of two commits.
 fn push_bases(graph: &[u8], commits: &[u8], answer: &mut Answer) -> Result<(), ListError> {
     let (one, other) = pair_of(commits);
-    let common = common_of(answer.alloc, graph, one, other)?;
-    let mut parents = Vec::new(answer.alloc);
-    for id in common.iter() {
-        push_parents(answer.alloc, graph, id, &mut parents)?;
-    }
-    let bases = listed(answer.alloc, graph, &common, &parents, Order::Date)?;
+    let bases = bases_of(answer.alloc, graph, one, other)?;
     push_names(&bases, answer);
     Ok(())
 }
 
-/// The commits that two commits reach, by their ids: what the first reaches but for those that the second doesn't.
-fn common_of(
+/// Lists the merge bases of two commits of a graph.
+pub(crate) fn bases_of(
     alloc: Global,
     graph: &[u8],
     one: ObjectId,
     other: ObjectId,
-) -> Result<Vec<ObjectId>, ListError> {
-    let all = listed(alloc, graph, &[one], &[], Order::Date)?;
-    let others = listed(alloc, graph, &[one], &[other], Order::Date)?;
-    Ok(sorted_without(alloc, &all, &others)?)
-}
-
-/// The ids that are not among others, sorted.
-fn sorted_without(
-    alloc: Global,
-    ids: &[ObjectId],
-    others: &[ObjectId],
 ) -> Result<Vec<ObjectId>, AllocError> {
-    let mut rest = Vec::new(alloc);
-    for id in ids {
-        if !others.contains(id) {
-            rest.push(*id)?;
-        }
+    let mut search = MergeBases::new(alloc, one, other)?;
+    for _ in 0..u64::MAX {
+        let Some(id) = search.next_wanted() else {
+            return search.list(alloc);
+        };
+        search = with_searched(alloc, search, graph, id)?;
     }
-    rest.sort()?;
-    Ok(rest)
+    Err(AllocError)
 }
 
-/// Appends the parents of a commit.
-fn push_parents(
+/// Inserts the commit that a search needs next.
+fn with_searched(
+    alloc: Global,
+    search: MergeBases,
+    graph: &[u8],
+    id: ObjectId,
+) -> Result<MergeBases, AllocError>
+    requires { IsSome search.wanted }
+{
+    let (parents, seconds) = node_of(alloc, graph, id)?;
+    search.insert(alloc, &parents, seconds)
+}
+
+/// Counts the commits of a graph that only one of two commits reaches.
+fn counts_of(
     alloc: Global,
     graph: &[u8],
-    id: &ObjectId,
-    parents: &mut Vec<ObjectId>,
-) -> Result<(), AllocError> {
-    let more = ids_of(alloc, commit_of(graph, name_of(id)).parents, b',')?;
-    parents.extend_from_slice(&more)
+    one: ObjectId,
+    other: ObjectId,
+) -> Result<LeftRightCount, AllocError> {
+    let mut count = SymmetricDifference::new(alloc, one, other)?;
+    for _ in 0..u64::MAX {
+        let Some(id) = count.next_wanted() else {
+            return Ok(count.count());
+        };
+        count = with_counted(alloc, count, graph, id)?;
+    }
+    Err(AllocError)
+}
+
+/// Inserts the commit that a count needs next.
+fn with_counted(
+    alloc: Global,
+    count: SymmetricDifference,
+    graph: &[u8],
+    id: ObjectId,
+) -> Result<SymmetricDifference, AllocError>
+    requires { IsSome count.wanted }
+{
+    let (parents, seconds) = node_of(alloc, graph, id)?;
+    count.insert(alloc, &parents, seconds)
+}
+
+/// Tests whether a commit of a graph is an ancestor of another one, or the same.
+fn is_ancestor_in(
+    alloc: Global,
+    graph: &[u8],
+    ancestor: ObjectId,
+    descendant: ObjectId,
+) -> Result<bool, AllocError> {
+    let mut search = AncestorSearch::new(alloc, ancestor, descendant)?;
+    for _ in 0..u64::MAX {
+        let Some(id) = search.next_wanted() else {
+            return Ok(search.is_ancestor());
+        };
+        search = with_descendant(alloc, search, graph, id)?;
+    }
+    Err(AllocError)
+}
+
+/// Inserts the commit that a search for an ancestor needs next.
+fn with_descendant(
+    alloc: Global,
+    search: AncestorSearch,
+    graph: &[u8],
+    id: ObjectId,
+) -> Result<AncestorSearch, AllocError>
+    requires { IsSome search.wanted }
+{
+    let (parents, seconds) = node_of(alloc, graph, id)?;
+    search.insert(alloc, &parents, seconds)
+}
+
+/// The parents of a commit of a graph, and its seconds.
+fn node_of(alloc: Global, graph: &[u8], id: ObjectId) -> Result<(Vec<ObjectId>, u64), AllocError> {
+    let commit = commit_of(graph, name_of(&id));
+    let parents = ids_of(alloc, commit.parents, b',')?;
+    Ok((parents, commit.seconds))
 }
 
 /// Lists what a walk over a graph selects, in an order.
@@ -155,9 +205,8 @@ pub(crate) fn listed(
 fn with_commit(alloc: Global, walk: Walk, graph: &[u8], id: ObjectId) -> Result<Walk, AllocError>
     requires { IsSome walk.wanted }
 {
-    let commit = commit_of(graph, name_of(&id));
-    let parents = ids_of(alloc, commit.parents, b',')?;
-    walk.insert(alloc, &parents, commit.seconds)
+    let (parents, seconds) = node_of(alloc, graph, id)?;
+    walk.insert(alloc, &parents, seconds)
 }
 
 /// The tips of a walk and its hidden commits, whose names have `^` before them.
