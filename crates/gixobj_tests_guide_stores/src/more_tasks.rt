@@ -1,7 +1,8 @@
 //! Calls more examples of docs/GUIDE.md once: stores in memory, and work lists.
 
 use crate::tasks::{
-    batches, depths, differences, histories, memories, names, one_error, stored_commits, writes,
+    batches, depths, differences, histories, memories, names, one_error, stored_commits, tips,
+    writes,
 };
 use bstr::BString;
 use gix_object::find::existing_object::Error;
@@ -139,6 +140,35 @@ fn lists_history_up_to_bound(rt: HostRuntime) {
     let store = stored_commits(alloc);
     assert!(rt; lists(alloc, &store, 2, &[id(SECOND), id(FIRST)]));
     assert!(rt; exceeds(alloc, &store, 1));
+}
+
+/// Whether a tip has these commits, in order, that the other one lacks.
+fn has_new(
+    alloc: Global,
+    store: &Memory,
+    tip: ObjectId,
+    other: ObjectId,
+    wanted: &[ObjectId],
+) -> bool {
+    match tips::new_commits(alloc, store, tip, other) {
+        Ok(commits) => commits.as_slice() == wanted,
+        Err(_) => false,
+    }
+}
+
+/// Whether the histories of both commits meet at the first.
+fn meets_first(alloc: Global, store: &Memory, tip: ObjectId, other: ObjectId) -> bool {
+    tips::meeting_commit(alloc, store, tip, other).ok() == Some(Some(id(FIRST)))
+}
+
+/// `git rev-list` and `git merge-base` print the same.
+#[test]
+fn compares_tips(rt: HostRuntime) {
+    let alloc = rt.alloc();
+    let store = stored_commits(alloc);
+    assert!(rt; has_new(alloc, &store, id(SECOND), id(FIRST), &[id(SECOND)]));
+    assert!(rt; has_new(alloc, &store, id(FIRST), id(SECOND), &[]));
+    assert!(rt; meets_first(alloc, &store, id(SECOND), id(FIRST)));
 }
 
 /// Whether the second commit's parent is found among objects.

@@ -18,6 +18,7 @@ pub mod programs;
 pub mod records;
 mod runs;
 mod stores;
+pub mod tips;
 mod walks;
 pub mod writes;
 
