@@ -18,7 +18,7 @@ use std::marker::Model;
 /// [`AncestorSearch::next_wanted`] returns the id of the next one, and [`AncestorSearch::insert`] takes its parents and
 /// its seconds.
 ///
-/// A call that fails consumes the search.
+/// An insertion that fails consumes the search.
 #[derive(Drop)]
 pub struct AncestorSearch {
     walk: Walk,
@@ -59,7 +59,8 @@ impl AncestorSearch {
     ) -> Result<AncestorSearch, AllocError>
         ensures ancestor { IfOk result (λ search. search.one ≡ ancestor) }
         ensures descendant { IfOk result (λ search. search.other ≡ descendant) }
-        ensures given { IfOk result (λ search. (id : Id) (node : NodeView Id) → ¬ searched_graph search id node) }
+        ensures given { IfOk result (λ search.
+            (id : Id) (node : NodeView Id) → ¬ searched_graph search id node) }
     {
         let walk = Walk::new(alloc, &[ancestor], &[descendant])?;
         Ok(AncestorSearch {
@@ -93,7 +94,8 @@ impl AncestorSearch {
         requires { IsSome self.wanted }
         ensures ancestor { IfOk result (λ search. search.one ≡ self.one) }
         ensures descendant { IfOk result (λ search. search.other ≡ self.other) }
-        ensures given { IfOk result (λ search. (id commit : Id) (node : NodeView Id) → self.wanted ≡ Some commit
+        ensures given { IfOk result (λ search.
+            (id commit : Id) (node : NodeView Id) → self.wanted ≡ Some commit
             → searched_graph search id node ↔ (searched_graph self id node
             ⊎ ((id ≡ commit) × (node ≡ record { parents = parents.now; seconds = seconds })))) }
         ensures reads { IfOk result (λ search. reads search.nodes ≡ reads self.nodes + 1) }

@@ -25,7 +25,7 @@ use std::marker::Model;
 /// [`MergeBases::next_wanted`] returns the id of the next one, and [`MergeBases::insert`] takes its parents and its
 /// seconds.
 ///
-/// A call that fails consumes the search.
+/// An insertion that fails consumes the search.
 #[derive(Drop)]
 pub struct MergeBases {
     known: KnownCommits,
@@ -51,9 +51,10 @@ impl Model for MergeBases {
       wanted = wanted_of search.is_settled search.known.names search.known.reading.next;
     } };
 
-    ghost invariant = { λ search. IsSearching search.known.names search.known.reading search.one search.other
-        search.is_settled
-        (IsSettledBases (named_graph search.known.names search.known.reading.nodes) search.one search.other) };
+    ghost invariant = { λ search. IsSearching search.known.names search.known.reading
+        search.one search.other search.is_settled
+        (IsSettledBases (named_graph search.known.names search.known.reading.nodes)
+        search.one search.other) };
 }
 
 impl MergeBases {
@@ -67,7 +68,8 @@ impl MergeBases {
     pub fn new(alloc: Global, one: ObjectId, other: ObjectId) -> Result<MergeBases, AllocError>
         ensures one { IfOk result (λ search. search.one ≡ one) }
         ensures other { IfOk result (λ search. search.other ≡ other) }
-        ensures given { IfOk result (λ search. (id : Id) (node : NodeView Id) → ¬ searched_graph search id node) }
+        ensures given { IfOk result (λ search.
+            (id : Id) (node : NodeView Id) → ¬ searched_graph search id node) }
         ensures known { IfOk result (λ search. AreOfEither search.ids (one ∷ []) (other ∷ [])) }
     {
         let (known, _left, _right) = KnownCommits::begin(alloc, &[one], &[other])?;
@@ -113,7 +115,8 @@ impl MergeBases {
         requires { IsSome self.wanted }
         ensures one { IfOk result (λ search. search.one ≡ self.one) }
         ensures other { IfOk result (λ search. search.other ≡ self.other) }
-        ensures given { IfOk result (λ search. (id commit : Id) (node : NodeView Id) → self.wanted ≡ Some commit
+        ensures given { IfOk result (λ search.
+            (id commit : Id) (node : NodeView Id) → self.wanted ≡ Some commit
             → searched_graph search id node ↔ (searched_graph self id node
             ⊎ ((id ≡ commit) × (node ≡ record { parents = parents.now; seconds = seconds })))) }
         ensures reads { IfOk result (λ search. reads search.nodes ≡ reads self.nodes + 1) }
@@ -172,7 +175,8 @@ impl MergeBases {
 
 // Tests whether the search has read enough, if it is time for a test.
 fn has_read_enough(alloc: Global, reading: &Reading, next_test: usize) -> Result<bool, AllocError>
-    ensures { IfOk result (λ is. (one other : ℕ) → HasMarks reading.now.nodes (one ∷ []) reading.now.left
+    ensures { IfOk result (λ is.
+        (one other : ℕ) → HasMarks reading.now.nodes (one ∷ []) reading.now.left
         → HasMarks reading.now.nodes (other ∷ []) reading.now.right → IsTrue is
         → IsSettledBases (graph_at reading.now.nodes) one other) }
 {

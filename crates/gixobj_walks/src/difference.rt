@@ -28,7 +28,7 @@ use std::marker::Model;
 /// [`SymmetricDifference::next_wanted`] returns the id of the next one, and [`SymmetricDifference::insert`] takes its
 /// parents and its seconds.
 ///
-/// A call that fails consumes the count.
+/// An insertion that fails consumes the count.
 #[derive(Drop)]
 pub struct SymmetricDifference {
     known: KnownCommits,
@@ -54,9 +54,10 @@ impl Model for SymmetricDifference {
       wanted = wanted_of search.is_settled search.known.names search.known.reading.next;
     } };
 
-    ghost invariant = { λ search. IsSearching search.known.names search.known.reading search.one search.other
-        search.is_settled
-        (AreSettledApart (named_graph search.known.names search.known.reading.nodes) search.one search.other) };
+    ghost invariant = { λ search. IsSearching search.known.names search.known.reading
+        search.one search.other search.is_settled
+        (AreSettledApart (named_graph search.known.names search.known.reading.nodes)
+        search.one search.other) };
 }
 
 impl SymmetricDifference {
@@ -74,7 +75,8 @@ impl SymmetricDifference {
     ) -> Result<SymmetricDifference, AllocError>
         ensures one { IfOk result (λ search. search.one ≡ one) }
         ensures other { IfOk result (λ search. search.other ≡ other) }
-        ensures given { IfOk result (λ search. (id : Id) (node : NodeView Id) → ¬ searched_graph search id node) }
+        ensures given { IfOk result (λ search.
+            (id : Id) (node : NodeView Id) → ¬ searched_graph search id node) }
     {
         let (known, _left, _right) = KnownCommits::begin(alloc, &[one], &[other])?;
         Ok(SymmetricDifference {
@@ -117,7 +119,8 @@ impl SymmetricDifference {
         requires { IsSome self.wanted }
         ensures one { IfOk result (λ search. search.one ≡ self.one) }
         ensures other { IfOk result (λ search. search.other ≡ self.other) }
-        ensures given { IfOk result (λ search. (id commit : Id) (node : NodeView Id) → self.wanted ≡ Some commit
+        ensures given { IfOk result (λ search.
+            (id commit : Id) (node : NodeView Id) → self.wanted ≡ Some commit
             → searched_graph search id node ↔ (searched_graph self id node
             ⊎ ((id ≡ commit) × (node ≡ record { parents = parents.now; seconds = seconds })))) }
         ensures reads { IfOk result (λ search. reads search.nodes ≡ reads self.nodes + 1) }
@@ -148,10 +151,12 @@ impl SymmetricDifference {
         requires { self.now.wanted ≡ None }
         ensures left { (commits : Id → Option (NodeView Id))
             → IsIncluded (searched_graph self.now) (graph_of commits) → IsAcyclic (graph_of commits)
-            → HasCount (IsSelected (graph_of commits) (self.now.one ∷ []) (self.now.other ∷ [])) result.left }
+            → HasCount (IsSelected (graph_of commits) (self.now.one ∷ []) (self.now.other ∷ []))
+            result.left }
         ensures right { (commits : Id → Option (NodeView Id))
             → IsIncluded (searched_graph self.now) (graph_of commits) → IsAcyclic (graph_of commits)
-            → HasCount (IsSelected (graph_of commits) (self.now.other ∷ []) (self.now.one ∷ [])) result.right }
+            → HasCount (IsSelected (graph_of commits) (self.now.other ∷ []) (self.now.one ∷ []))
+            result.right }
     {
         let None = self.next_wanted() else {
             unreachable!()
@@ -167,7 +172,8 @@ impl SymmetricDifference {
 
 // Tests whether the count has read enough, if it is time for a test.
 fn has_read_enough(alloc: Global, reading: &Reading, next_test: usize) -> Result<bool, AllocError>
-    ensures { IfOk result (λ is. (one other : ℕ) → HasMarks reading.now.nodes (one ∷ []) reading.now.left
+    ensures { IfOk result (λ is.
+        (one other : ℕ) → HasMarks reading.now.nodes (one ∷ []) reading.now.left
         → HasMarks reading.now.nodes (other ∷ []) reading.now.right → IsTrue is
         → AreSettledApart (graph_at reading.now.nodes) one other) }
 {

@@ -36,7 +36,8 @@ impl KnownCommits {
         right: &[ObjectId],
     ) -> Result<(KnownCommits, Vec<usize>, Vec<usize>), AllocError>
         ensures left { IfOk result (λ begun. AllZip (Names begun.0.names) begun.1.items left.now) }
-        ensures right { IfOk result (λ begun. AllZip (Names begun.0.names) begun.2.items right.now) }
+        ensures right { IfOk result (λ begun.
+            AllZip (Names begun.0.names) begun.2.items right.now) }
         ensures kept { IfOk result (λ begun. IsWalking begun.0.names begun.0.reading
             begun.1.items begun.2.items false) }
         ensures given { IfOk result (λ begun. (id : Id) (node : NodeView Id)
@@ -86,9 +87,11 @@ impl KnownCommits {
             → IsWalking done.names done.reading left right false) }
         ensures given { IfOk result (λ done. (id commit : Id) (node : NodeView Id)
             → wanted_of false self.names self.reading.next ≡ Some commit
-            → named_graph done.names done.reading.nodes id node ↔ (named_graph self.names self.reading.nodes id node
+            → named_graph done.names done.reading.nodes id node
+            ↔ (named_graph self.names self.reading.nodes id node
             ⊎ ((id ≡ commit) × (node ≡ record { parents = parents.now; seconds = seconds })))) }
-        ensures reads { IfOk result (λ done. reads done.reading.nodes ≡ reads self.reading.nodes + 1) }
+        ensures reads { IfOk result (λ done.
+            reads done.reading.nodes ≡ reads self.reading.nodes + 1) }
         ensures known { IfOk result (λ done. AreOfEither done.names self.names parents.now) }
     {
         let KnownCommits { mut names, reading } = self;
@@ -115,8 +118,10 @@ pub fn test_after(reads: usize, next_test: usize) -> usize {
 // Adds commits that are not read, and have no mark.
 fn unread(reading: Reading, count: usize) -> Result<Reading, AllocError>
     ensures nodes { IfOk result (λ done. done.nodes ≡ reading.nodes ++ replicate count None) }
-    ensures left { IfOk result (λ done. KeepsMarks reading.nodes reading.left done.nodes done.left) }
-    ensures right { IfOk result (λ done. KeepsMarks reading.nodes reading.right done.nodes done.right) }
+    ensures left { IfOk result (λ done.
+        KeepsMarks reading.nodes reading.left done.nodes done.left) }
+    ensures right { IfOk result (λ done.
+        KeepsMarks reading.nodes reading.right done.nodes done.right) }
 {
     let mut reading = reading;
     for _ in 0..count {

@@ -10,6 +10,7 @@ ghost use Rattle.gixobj_walks.specs.Newest.{AreNewestFirst};
 pub fn bases_are_unique()
     ensures { (commits : Id → Option (NodeView Id)) (one other : Id) (ids others : List Id)
         → AreMergeBases (graph_of commits) one other ids → AreNewestFirst (graph_of commits) ids
-        → AreMergeBases (graph_of commits) one other others → AreNewestFirst (graph_of commits) others
+        → AreMergeBases (graph_of commits) one other others
+        → AreNewestFirst (graph_of commits) others
         → ids ≡ others }
 {}

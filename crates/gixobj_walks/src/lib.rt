@@ -1,7 +1,7 @@
 //! Walks over the commits of a history (git-rev-list, git-merge-base).
 //!
-//! A walk over the commits that are read is a walk over each graph with these commits, once reading has ended. Likewise
-//! for a search for merge bases or for an ancestor, and for a count of a symmetric difference.
+//! A walk has no store: it requests commits until it needs no more. Then its list is that of each acyclic graph with
+//! these commits. Likewise for a search for merge bases or for an ancestor, and for a count of a symmetric difference.
 #![tactic(auto)]
 
 pub mod ancestor;

@@ -69,7 +69,8 @@ impl CommitNames {
     /// [`AllocError`] if an allocation fails; then the list is unchanged.
     pub fn push(&mut self, id: ObjectId) -> Result<usize, AllocError>
         requires { IsUnnamed self.old id }
-        ensures pushed { IfOk result (λ number. (number ≡ length self.old) × (self.new ≡ self.old ++ id ∷ [])) }
+        ensures pushed { IfOk result (λ number.
+            (number ≡ length self.old) × (self.new ≡ self.old ++ id ∷ [])) }
         ensures unchanged { OnErr result (self.new ≡ self.old) }
     {
         let number = self.ids.len();

@@ -34,7 +34,8 @@ pub fn newest_first(
 ) -> Result<Vec<ObjectId>, AllocError>
     requires lengths { length known.now.reading.nodes ≡ length known.now.names }
     requires parents { AreParentsKnown known.now.reading.nodes }
-    requires read { (number : ℕ) → Contains numbers.now number → IsRead (graph_at known.now.reading.nodes) number }
+    requires read { (number : ℕ) → Contains numbers.now number
+        → IsRead (graph_at known.now.reading.nodes) number }
     ensures exact { IfOk result (λ ids. (id : Id) → Contains ids.items id
         ↔ IsNameOf known.now.names numbers.now id) }
     ensures order { IfOk result (λ ids. AreNewestFirst
@@ -52,8 +53,10 @@ fn by_date(
     numbers: &[usize],
 ) -> Result<BTreeSet<Dated>, AllocError>
     requires lengths { length known.now.reading.nodes ≡ length known.now.names }
-    requires read { (number : ℕ) → Contains numbers.now number → IsRead (graph_at known.now.reading.nodes) number }
-    ensures dated { IfOk result (λ dated. AreDated known.now.names known.now.reading.nodes numbers.now dated.keys) }
+    requires read { (number : ℕ) → Contains numbers.now number
+        → IsRead (graph_at known.now.reading.nodes) number }
+    ensures dated { IfOk result (λ dated.
+        AreDated known.now.names known.now.reading.nodes numbers.now dated.keys) }
     ensures ordered { IfOk result (λ dated. IsStrictlySortedBy dated_cmp dated.keys) }
 {
     let mut dated = BTreeSet::new(alloc);

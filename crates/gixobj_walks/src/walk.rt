@@ -26,7 +26,7 @@ use std::marker::Model;
 /// It has no store: it requests the commits that it needs, one after the other, until it needs no more.
 /// [`Walk::next_wanted`] returns the id of the next one, and [`Walk::insert`] takes its parents and its seconds.
 ///
-/// A call that fails consumes the walk.
+/// An insertion that fails consumes the walk.
 #[derive(Drop)]
 pub struct Walk {
     known: KnownCommits,
@@ -49,8 +49,8 @@ impl Model for Walk {
       wanted = wanted_of walk.is_settled walk.known.names walk.known.reading.next;
     } };
 
-    ghost invariant = { λ walk. IsWalking walk.known.names walk.known.reading walk.tips.items walk.hidden.items
-        walk.is_settled };
+    ghost invariant = { λ walk. IsWalking walk.known.names walk.known.reading
+        walk.tips.items walk.hidden.items walk.is_settled };
 }
 
 impl Walk {
@@ -64,7 +64,8 @@ impl Walk {
     pub fn new(alloc: Global, tips: &[ObjectId], hidden: &[ObjectId]) -> Result<Walk, AllocError>
         ensures tips { IfOk result (λ walk. walk.tips ≡ tips.now) }
         ensures hidden { IfOk result (λ walk. walk.hidden ≡ hidden.now) }
-        ensures given { IfOk result (λ walk. (id : Id) (node : NodeView Id) → ¬ given_graph walk id node) }
+        ensures given { IfOk result (λ walk.
+            (id : Id) (node : NodeView Id) → ¬ given_graph walk id node) }
         ensures known { IfOk result (λ walk. AreOfEither walk.ids tips.now hidden.now) }
     {
         let (known, tips, hidden) = KnownCommits::begin(alloc, tips, hidden)?;
@@ -110,7 +111,8 @@ impl Walk {
         requires { IsSome self.wanted }
         ensures tips { IfOk result (λ walk. walk.tips ≡ self.tips) }
         ensures hidden { IfOk result (λ walk. walk.hidden ≡ self.hidden) }
-        ensures given { IfOk result (λ walk. (id commit : Id) (node : NodeView Id) → self.wanted ≡ Some commit
+        ensures given { IfOk result (λ walk.
+            (id commit : Id) (node : NodeView Id) → self.wanted ≡ Some commit
             → given_graph walk id node ↔ (given_graph self id node
             ⊎ ((id ≡ commit) × (node ≡ record { parents = parents.now; seconds = seconds })))) }
         ensures reads { IfOk result (λ walk. reads walk.nodes ≡ reads self.nodes + 1) }
@@ -187,7 +189,8 @@ impl Walk {
 
 // Tests whether the walk has read enough, if it is time for a test.
 fn has_read_enough(alloc: Global, reading: &Reading, next_test: usize) -> Result<bool, AllocError>
-    ensures { IfOk result (λ is. (tips hidden : List ℕ) → HasMarks reading.now.nodes tips reading.now.left
+    ensures { IfOk result (λ is.
+        (tips hidden : List ℕ) → HasMarks reading.now.nodes tips reading.now.left
         → HasMarks reading.now.nodes hidden reading.now.right → IsTrue is
         → IsSettledWalk (graph_at reading.now.nodes) tips hidden) }
 {

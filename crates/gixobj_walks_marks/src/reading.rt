@@ -50,7 +50,8 @@ impl Model for Reading {
       next = next_of (heap_items r.queue);
     } };
 
-    ghost invariant = { λ r. IsReading r.nodes.items r.left.items r.right.items (heap_items r.queue) r.read };
+    ghost invariant = { λ r. IsReading r.nodes.items r.left.items r.right.items
+        (heap_items r.queue) r.read };
 }
 
 impl Reading {
