@@ -7,6 +7,8 @@
 #[cfg(test)]
 mod calls;
 mod graphs;
+#[cfg(test)]
+mod known;
 mod walks;
 
 use gixobj_tests_recorded::answer::Form::Escaped;
