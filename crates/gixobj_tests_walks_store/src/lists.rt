@@ -5,7 +5,7 @@ use gixobj_hash::{Kind, OutOfMemory};
 use gixobj_store_keep::Memory;
 use gixobj_walks_commits::NodeError;
 use gixobj_walks_graph::Order;
-use gixobj_walks_store::{WalkError, list_commits, peel_to_commits};
+use gixobj_walks_store::{WalkError, is_ancestor, list_commits, merge_bases, peel_to_commits};
 use std::alloc::Global;
 
 const A: &[u8] = b"af54a611f67b6498c39ebe8936700e597956dda5";
@@ -187,4 +187,36 @@ fn fails_if_id_names_no_commit(rt: HostRuntime) {
     for hex in [EMPTY_TREE, V1, missing] {
         assert!(rt; unread(rt.alloc(), id(hex)) == Some(id(hex)));
     }
+}
+
+/// Returns whether two commits have this merge base alone.
+fn have_base(alloc: Global, one: ObjectId, other: ObjectId, base: ObjectId) -> bool {
+    let Ok(store) = store_of(alloc) else {
+        return false;
+    };
+    let found = merge_bases(alloc, &store, one, other);
+    matches!(&found, Ok(ids) if ids.as_slice() == [base].as_slice())
+}
+
+/// `git merge-base --all` prints the same.
+#[test]
+fn finds_merge_bases(rt: HostRuntime) {
+    let alloc = rt.alloc();
+    assert!(rt; have_base(alloc, id(D), id(C), id(A)));
+    assert!(rt; have_base(alloc, id(M), id(C), id(C)));
+}
+
+/// Returns whether a commit is an ancestor of another one, or the same. `None` if that isn't found.
+fn reaches(alloc: Global, ancestor: ObjectId, commit: ObjectId) -> Option<bool> {
+    let store = store_of(alloc).ok()?;
+    is_ancestor(alloc, &store, ancestor, commit).ok()
+}
+
+/// `git merge-base --is-ancestor` has the same status.
+#[test]
+fn tests_ancestors(rt: HostRuntime) {
+    let alloc = rt.alloc();
+    assert!(rt; reaches(alloc, id(B), id(M)) == Some(true));
+    assert!(rt; reaches(alloc, id(C), id(D)) == Some(false));
+    assert!(rt; reaches(alloc, id(C), id(C)) == Some(true));
 }
