@@ -1,5 +1,5 @@
 -- Merge bases of the commits that were given to a search are those of each graph with these commits.
-use Rattle.std.proofs.Common.{◌≡◌, ◌∙◌, ◌⊎◌, ◌↔◌, ℕ, List, [], ◌∷◌, ⊎_elim, inl, inr, refl, sym, subst}
+use Rattle.std.proofs.Common.{◌≡◌, ◌∙◌, ◌⊎◌, ◌↔◌, ℕ, List, [], ◌∷◌, Option, None, Some, ap, ⊎_elim, inl, inr, refl, sym, subst}
 use Rattle.std.specs.Prelude.{Contains}
 use Rattle.std.specs.List.{AllByRecursion}
 use Rattle.gixobj_hash.proofs.SameIds.{id_eq_or_ne}
@@ -11,7 +11,7 @@ use Rattle.gixobj_walks_marks.proofs.Paths.{reaches_itself, reaches_ancestor}
 use Rattle.gixobj_walks_marks.specs.Settled.{IsSettledBases}
 use Rattle.gixobj_walks.specs.Newest.{AreNewestFirst, ComesBefore}
 use Rattle.gixobj_walks.specs.Search.{SearchView, searched_graph}
-use Rattle.gixobj_walks.specs.Named.{AreOfEither}
+use Rattle.gixobj_walks.specs.Named.{AreOfEither, graph_of}
 use Rattle.gixobj_walks_store.proofs.GivenWalks.{reached_parent}
 use Rattle.gixobj_walks_store.specs.Reached.{IsReachedFromEither}
 
@@ -36,6 +36,48 @@ search_over_begins G one other search one_is other_is none known = record {
       (λ it. inr (id, it, reaches_itself G id))
       (known id has);
 }
+
+-- ---- the order
+
+module _ (R G : Graph ObjectId) (included : IsIncluded R G) where
+  comes_before : (id later : ObjectId) → ComesBefore R id later → ComesBefore G id later
+  comes_before id later it = record {
+    node = it.node;
+    other_node = it.other_node;
+    named = included id it.node it.named;
+    other_named = included later it.other_node it.other_named;
+    order = it.order;
+  }
+
+  each_comes_before : (id : ObjectId) (ids : List ObjectId) → AllByRecursion (ComesBefore R id) ids → AllByRecursion (ComesBefore G id) ids
+  each_comes_before id [] each = tt
+  each_comes_before id (later ∷ ids) each = (comes_before id later each.0, each_comes_before id ids each.1)
+
+  newest_first_in_larger : (ids : List ObjectId) → AreNewestFirst R ids → AreNewestFirst G ids
+  newest_first_in_larger [] first = tt
+  newest_first_in_larger (id ∷ ids) first = (each_comes_before id ids first.0, newest_first_in_larger ids first.1)
+
+module _ (H : Graph ObjectId) where
+  -- the commit that the id names, if it is read
+  abbrev node_if_read : (id : ObjectId) → IsRead H id ⊎ (¬ IsRead H id) → Option (NodeView ObjectId)
+  node_if_read id (inl read) = Some read.0
+  node_if_read id (inr unread) = None
+
+  is_node_if_read : IsFunctional H → (id : ObjectId) (node : NodeView ObjectId) (decided : IsRead H id ⊎ (¬ IsRead H id)) → H id node
+      → node_if_read id decided ≡ Some node
+  is_node_if_read functional id node (inl read) named = ap Some (functional id read.0 node read.1 named)
+  is_node_if_read functional id node (inr unread) named = absurd (unread (node, named))
+
+  some_injective : (node other : NodeView ObjectId) → Some node ≡ Some other → node ≡ other
+  some_injective node other same = cc
+
+  none_is_not_some : (node : NodeView ObjectId) → ¬ (None ≡ Some node)
+  none_is_not_some node same = cc
+
+  named_if_read : (id : ObjectId) (node : NodeView ObjectId) (decided : IsRead H id ⊎ (¬ IsRead H id))
+      → node_if_read id decided ≡ Some node → H id node
+  named_if_read id node (inl read) is = subst (λ (it : NodeView ObjectId). H id it) (some_injective read.0 node is) read.1
+  named_if_read id node (inr unread) is = absurd (none_is_not_some node is)
 
 module _ (G : Graph ObjectId) (one other : ObjectId) (search : SearchView) (is : IsSearchOver G one other search) where
   module _ (new : SearchView) (commit : ObjectId) (parents : List ObjectId) (seconds : ℕ) (same_one : new.one ≡ search.one)
@@ -91,23 +133,23 @@ module _ (G : Graph ObjectId) (one other : ObjectId) (search : SearchView) (is :
     once = bases.once;
   })
 
-  comes_before : (id later : ObjectId) → ComesBefore (searched_graph search) id later → ComesBefore G id later
-  comes_before id later it = record {
-    node = it.node;
-    other_node = it.other_node;
-    named = is.included id it.node it.named;
-    other_named = is.included later it.other_node it.other_named;
-    order = it.order;
-  }
+  -- the commit that was given, or none
+  abbrev commits : ObjectId → Option (NodeView ObjectId)
+  commits id = node_if_read (searched_graph search) id (is.decided id)
 
-  each_comes_before : (id : ObjectId) (ids : List ObjectId) → AllByRecursion (ComesBefore (searched_graph search) id) ids
-      → AllByRecursion (ComesBefore G id) ids
-  each_comes_before id [] each = tt
-  each_comes_before id (later ∷ ids) each = (comes_before id later each.0, each_comes_before id ids each.1)
+  commits_are_of_graph : IsIncluded (graph_of commits) G
+  commits_are_of_graph id node here = is.included id node (named_if_read (searched_graph search) id node (is.decided id) here)
 
-  pub newest_first_in_larger : (ids : List ObjectId) → AreNewestFirst (searched_graph search) ids → AreNewestFirst G ids
-  newest_first_in_larger [] first = tt
-  newest_first_in_larger (id ∷ ids) first = (each_comes_before id ids first.0, newest_first_in_larger ids first.1)
+  given_are_commits : IsFunctional G → IsIncluded (searched_graph search) (graph_of commits)
+  given_are_commits functional id node given = is_node_if_read (searched_graph search)
+      (λ id one other first second. functional id one other (is.included id one first) (is.included id other second)) id node
+      (is.decided id) given
+
+  pub newest_first_of_given : IsFunctional G → (ids : List ObjectId)
+      → ((commits : ObjectId → Option (NodeView ObjectId)) → IsIncluded (searched_graph search) (graph_of commits)
+      → AreNewestFirst (graph_of commits) ids) → AreNewestFirst G ids
+  newest_first_of_given functional ids first = newest_first_in_larger (graph_of commits) G commits_are_of_graph ids
+      (first commits (given_are_commits functional))
 
 -- an ancestor is the merge base of it and its descendant
 pub ancestor_by_bases : (G : Graph ObjectId) (ancestor commit : ObjectId) (bases : List ObjectId) → IsAcyclic G

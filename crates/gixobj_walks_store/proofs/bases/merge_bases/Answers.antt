@@ -5,7 +5,7 @@ use Rattle.gixobj_hash.specs.declared.hash.object_id.ObjectId.{ObjectId}
 use Rattle.gixobj_walks_graph.specs.Graph.{NodeView}
 use Rattle.gixobj_walks_commits.proofs.Nodes.{commit_graph_is_functional}
 use Rattle.gixobj_walks_commits.specs.Nodes.{CommitGraph, IsFindNodeError}
-use Rattle.gixobj_walks_store.proofs.SearchedBases.{bases_of_acyclic, newest_first_in_larger, search_over_begins, search_over_continues}
+use Rattle.gixobj_walks_store.proofs.SearchedBases.{bases_of_acyclic, newest_first_of_given, search_over_begins, search_over_continues}
 use Rattle.gixobj_walks_store.proofs.bases.merge_bases.Goals as goal
 
 pub commits-init : goal.commits-init
@@ -36,5 +36,6 @@ returns-clause-bases g c = λ acyclic. bases_of_acyclic (CommitGraph (g.S.Store.
     c.in_ok-ids.ids.items c.in_ok-ids.ensures.bases acyclic
 
 pub returns-clause-order : goal.returns-clause-order
-returns-clause-order g c = newest_first_in_larger (CommitGraph (g.S.Store.objects c.args.store.now)) c.args.one c.args.other
-    c.commits.search c.commits.invariant c.in_ok-ids.ids.items c.in_ok-ids.ensures.order
+returns-clause-order g c = newest_first_of_given (CommitGraph (g.S.Store.objects c.args.store.now)) c.args.one c.args.other
+    c.commits.search c.commits.invariant (commit_graph_is_functional (g.S.Store.objects c.args.store.now)) c.in_ok-ids.ids.items
+    c.in_ok-ids.ensures.order
