@@ -20,13 +20,16 @@ abbrev pub strict_arguments : Bool → List (List ℕ)
 strict_arguments true = codes "--strict" ∷ []
 strict_arguments false = []
 
--- the arguments are `check`, alone or with `--strict`; or `log` or `ls` and an id; or `diff` and two ids
+-- the arguments are `check`, alone or with `--strict`; or `log` or `ls` and an id; or `diff` or `merge-base` and two
+-- ids
 abbrev pub NamesCommand : List (List ℕ) → Command → Type 0
 NamesCommand arguments (command.Check strict) = arguments ≡ codes "check" ∷ strict_arguments strict
 NamesCommand arguments (command.Log id) = (hex : List ℕ) × (arguments ≡ codes "log" ∷ hex ∷ []) × IsIdArgument hex id
 NamesCommand arguments (command.List id) = (hex : List ℕ) × (arguments ≡ codes "ls" ∷ hex ∷ []) × IsIdArgument hex id
 NamesCommand arguments (command.Diff from to) = (first second : List ℕ)
     × (arguments ≡ codes "diff" ∷ first ∷ second ∷ []) × IsIdArgument first from × IsIdArgument second to
+NamesCommand arguments (command.MergeBase one other) = (first second : List ℕ)
+    × (arguments ≡ codes "merge-base" ∷ first ∷ second ∷ []) × IsIdArgument first one × IsIdArgument second other
 
 -- the arguments are those of no command
 abbrev pub NamesNoCommand : List (List ℕ) → Type 0

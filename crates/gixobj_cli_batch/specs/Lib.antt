@@ -8,3 +8,4 @@ pub mod Objects
 pub mod Reports
 pub mod Runs
 pub mod Trees
+pub mod Walks

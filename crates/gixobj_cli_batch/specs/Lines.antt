@@ -6,6 +6,7 @@ use Rattle.gix_object.specs.Hash.{encode_id_hex, id_kind, null_id}
 use Rattle.gix_object.specs.Mode.{encode_mode, kind_of_mode, mode_bits, mode_of_kind}
 use Rattle.gix_object.specs.entries.entry_kind.EntryKind.{EntryKind}
 use Rattle.gix_object.specs.entries.entry_kind.EntryKind.TheVariants as entry
+use Rattle.gix_object.specs.hash.hash.object_id.ObjectId.{ObjectId}
 use Rattle.gixobj_listings.specs.Changes.{ChangeView, VersionView}
 use Rattle.gixobj_listings.specs.FileLists.{FileView}
 use Rattle.gixobj_listings.specs.Histories.{LoggedView}
@@ -23,6 +24,10 @@ colon = 58
 abbrev pub log_line : LoggedView → List ℕ
 log_line commit = encode_id_hex commit.id ++ space ∷ author_bytes commit.author commit.email ++ space ∷ commit.title
     ++ newline ∷ []
+
+-- the line of a commit of a walk: its id
+abbrev pub commit_line : ObjectId → List ℕ
+commit_line id = encode_id_hex id ++ newline ∷ []
 
 -- ---- files
 

@@ -1,8 +1,9 @@
 -- The store of the objects of records.
-use Rattle.std.specs.Prelude.{List, [], ◌∷◌}
+use Rattle.std.specs.Prelude.{Bool, false, List, [], ◌∷◌}
 use Rattle.std.specs.FinMap as finite
 use Rattle.gix_object.specs.Hash.{id_kind}
 use Rattle.gix_object.specs.Stores.{Objects}
+use Rattle.gix_object.specs.hash.hash.object_id.ObjectId.{ObjectId}
 use Rattle.gixobj_records.specs.Records.{RecordView, missing, object}
 
 -- the objects, with that of a record under its id
@@ -19,3 +20,7 @@ with_records objects (it ∷ records) = with_records (with_record objects it) re
 -- the objects of the records; of two with one id, the later one
 abbrev pub objects_of : List RecordView → Objects
 objects_of records = with_records finite.empty records
+
+-- no lookup fails: the objects are in memory
+abbrev pub never_fails : ObjectId → Bool
+never_fails id = false

@@ -1,5 +1,5 @@
 -- What the commands print, and the error after the lines.
-use Rattle.std.specs.Prelude.{◌≡◌, ◌⊎◌, ◌-◌, ◌^◌, ℕ, Bool, false, IsFalse, List, [], Option, None, Some, ⊤}
+use Rattle.std.specs.Prelude.{◌≡◌, ◌⊎◌, ◌-◌, ◌^◌, ℕ, IsFalse, List, [], Option, None, Some, ⊤}
 use Rattle.std.specs.List.{flat_map}
 use Rattle.gix_object.specs.Existing.{IsFindObjectError}
 use Rattle.gix_object.specs.Files.{is_null}
@@ -8,8 +8,9 @@ use Rattle.gix_object.specs.hash.hash.object_id.ObjectId.{ObjectId}
 use Rattle.gix_object.specs.hash.kind.Kind.TheVariants.{Commit}
 use Rattle.gixobj_cli_batch.specs.CheckLines.{PrintsCheck}
 use Rattle.gixobj_cli_batch.specs.Lines.{change_line, file_line, log_line}
-use Rattle.gixobj_cli_batch.specs.Objects.{objects_of}
+use Rattle.gixobj_cli_batch.specs.Objects.{never_fails, objects_of}
 use Rattle.gixobj_cli_batch.specs.Trees.{IsTreeOf, NamesCommitObject}
+use Rattle.gixobj_cli_batch.specs.Walks.{IsMergeBaseError, PrintsMergeBases}
 use Rattle.gixobj_cli_batch.specs.declared.arguments.Command.{Command}
 use Rattle.gixobj_cli_batch.specs.declared.arguments.Command.TheVariants as command
 use Rattle.gixobj_cli_batch.specs.declared.fault.Fault.{Fault}
@@ -23,10 +24,6 @@ use Rattle.gixobj_listings.specs.declared.history.LogEnd.{LogEnd}
 use Rattle.gixobj_listings.specs.declared.history.LogEnd.TheVariants as end
 use Rattle.gixobj_records.specs.Records.{DecodesToRecords, IsBatchError, RecordView}
 use Rattle.gixobj_records.specs.declared.records.BatchError.{BatchError}
-
--- no lookup fails: the objects are in memory
-abbrev pub never_fails : ObjectId → Bool
-never_fails id = false
 
 -- the error after a log that ends so; none at a root commit
 abbrev pub IsFaultOfEnd : LogEnd → Option Fault → Type 0
@@ -71,6 +68,7 @@ abbrev pub Prints : Command → List RecordView → List ℕ → Option Fault �
 Prints (command.Log id) records lines fault = PrintsLog (objects_of records) id lines fault
 Prints (command.List id) records lines fault = PrintsFiles (objects_of records) id lines fault
 Prints (command.Diff from to) records lines fault = PrintsChanges (objects_of records) from to lines fault
+Prints (command.MergeBase one other) records lines fault = PrintsMergeBases (objects_of records) one other lines fault
 Prints (command.Check strict) records lines fault = PrintsCheck strict records lines fault
 
 -- the input is the concatenation of records, and these are the lines of a command on them, and the error after them
@@ -109,6 +107,7 @@ abbrev pub IsCommandError : Command → List RecordView → Fault → Type 0
 IsCommandError (command.Log id) records fault = fault ≡ program.OutOfMemory
 IsCommandError (command.List id) records fault = IsFilesError (objects_of records) id fault
 IsCommandError (command.Diff from to) records fault = IsDiffError (objects_of records) from to fault
+IsCommandError (command.MergeBase one other) records fault = IsMergeBaseError (objects_of records) one other fault
 IsCommandError (command.Check strict) records fault = fault ≡ program.OutOfMemory
 
 -- the error of a command on this input, without lines: the input isn't a sequence of records; or that on its records

@@ -18,6 +18,8 @@ pub(crate) enum Command {
     List(ObjectId),
     /// The changes from a commit or a tree to another.
     Diff(ObjectId, ObjectId),
+    /// The merge bases of two commits.
+    MergeBase(ObjectId, ObjectId),
     /// The faults of the objects, and git's findings about them, in a check that is strict or not.
     Check(bool),
 }
@@ -44,7 +46,7 @@ pub(crate) fn command_of(arguments: &[String]) -> Option<Command>
     match arguments {
         [name] => command_alone(name),
         [name, argument] => command_of_pair(name, argument),
-        [name, from, to] => command_of_ids(name, from, to),
+        [name, first, second] => command_of_ids(name, first, second),
         _ => None,
     }
 }
@@ -105,16 +107,19 @@ fn command_of_id(name: &String, id: &String) -> Option<Command>
 }
 
 /// Returns the command that a name and two ids name, or `None`.
-fn command_of_ids(name: &String, from: &String, to: &String) -> Option<Command>
+fn command_of_ids(name: &String, first: &String, second: &String) -> Option<Command>
     ensures found { IfSome result (NamesCommand
-        (string_bytes name.now ∷ string_bytes from.now ∷ string_bytes to.now ∷ [])) }
+        (string_bytes name.now ∷ string_bytes first.now ∷ string_bytes second.now ∷ [])) }
     ensures none { IfNone result (NamesNoCommand
-        (string_bytes name.now ∷ string_bytes from.now ∷ string_bytes to.now ∷ [])) }
+        (string_bytes name.now ∷ string_bytes first.now ∷ string_bytes second.now ∷ [])) }
 {
-    let before = id_of(from)?;
-    let after = id_of(to)?;
+    let first = id_of(first)?;
+    let second = id_of(second)?;
     if name.as_str() == "diff" {
-        return Some(Command::Diff(before, after));
+        return Some(Command::Diff(first, second));
+    }
+    if name.as_str() == "merge-base" {
+        return Some(Command::MergeBase(first, second));
     }
     None
 }

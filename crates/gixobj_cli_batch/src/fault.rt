@@ -8,6 +8,7 @@ use gix_object::find::existing_object;
 use gix_object::hash::ObjectId;
 use gixobj_listings::listing::ListError;
 use gixobj_records::BatchError;
+use gixobj_walks_store::WalkError;
 use std::alloc::{AllocError, AllocFailed};
 use std::io;
 
@@ -15,7 +16,7 @@ use std::io;
 #[derive(Debug, Drop, thiserror::Error)]
 pub(crate) enum Fault {
     /// The arguments name no command.
-    #[error("usage: gixobj_cli_batch log ID | ls ID | diff ID ID | check [--strict]")]
+    #[error("usage: gixobj_cli_batch log ID | ls ID | diff ID ID | merge-base ID ID | check [--strict]")]
     Usage,
     /// The input isn't a sequence of records.
     #[error("{0}")]
@@ -37,6 +38,12 @@ pub(crate) enum Fault {
     /// A directory isn't read.
     #[error("{0}")]
     Tree(ListError),
+    /// A commit of a walk isn't read, or is an ancestor of itself.
+    #[error("{0}")]
+    Walk(WalkError),
+    /// Two commits have no common ancestor.
+    #[error("no merge base")]
+    NoMergeBase,
     /// The check found faults.
     #[error("objects with faults")]
     Faulty,
@@ -73,6 +80,14 @@ impl From<ListError> for Fault {
 
     fn from(error: ListError) -> Fault {
         Fault::Tree(error)
+    }
+}
+
+impl From<WalkError> for Fault {
+    ghost from_gives = { λ cause fault. fault ≡ program.Walk cause };
+
+    fn from(error: WalkError) -> Fault {
+        Fault::Walk(error)
     }
 }
 

@@ -1,15 +1,16 @@
 //! The parts of lines.
-ghost use Rattle.std.specs.Prelude.{◌≡◌, ◌++◌, OnOk, decimal};
+ghost use Rattle.std.specs.Prelude.{◌≡◌, ◌++◌, IfOk, OnOk, decimal};
+ghost use Rattle.std.specs.List.{flat_map};
 ghost use Rattle.gix_object.specs.Hash.{encode_id_hex};
 ghost use Rattle.gix_object.specs.Calls.{names_of};
 ghost use Rattle.gix_object.specs.Mode.{mode_bits};
-ghost use Rattle.gixobj_cli_batch.specs.Lines.{more_path_bytes, path_bytes, printed_mode};
+ghost use Rattle.gixobj_cli_batch.specs.Lines.{commit_line, more_path_bytes, path_bytes, printed_mode};
 
 use bstr::BString;
 use gix_object::hash::ObjectId;
 use gix_object::tree::EntryMode;
 use itoa::Buffer;
-use std::alloc::AllocError;
+use std::alloc::{AllocError, Global};
 
 /// Appends an id in hex.
 pub(crate) fn push_id(lines: &mut Vec<u8>, id: ObjectId) -> Result<(), AllocError>
@@ -17,6 +18,26 @@ pub(crate) fn push_id(lines: &mut Vec<u8>, id: ObjectId) -> Result<(), AllocErro
 {
     let mut hex = [0u8; 64];
     lines.extend_from_slice(id.hex_to_buf(&mut hex).as_bytes())
+}
+
+/// Returns the lines of ids, one each.
+pub(crate) fn lines_of_ids(alloc: Global, ids: &[ObjectId]) -> Result<Vec<u8>, AllocError>
+    ensures { IfOk result (λ lines. lines.items ≡ flat_map commit_line ids.now) }
+{
+    let mut lines = Vec::new(alloc);
+    for id in ids {
+        push_id_line(&mut lines, *id)?;
+    }
+    Ok(lines)
+}
+
+/// Appends an id in hex, and a newline.
+fn push_id_line(lines: &mut Vec<u8>, id: ObjectId) -> Result<(), AllocError>
+    ensures { OnOk result (lines.new.items ≡ lines.old.items ++ commit_line id) }
+{
+    push_id(lines, id)?;
+    lines.push(b'\n')?;
+    Ok(())
 }
 
 /// Appends bytes, and a number in decimal.

@@ -4,6 +4,7 @@
 //! - `log ID`: a line `<id> <author> <<email>> <title>` for a commit and each ancestor by first parents;
 //! - `ls ID`: a line `<mode> <kind> <id>` for each file of a commit or a tree, with a tab and its path;
 //! - `diff ID ID`: a line for each change between two, as `git diff-tree -r` prints it;
+//! - `merge-base ID ID`: a line `<id>` for each merge base of two commits, as `git merge-base --all` prints it;
 //! - `check`, `check --strict`: a line for each fault of an object, and one for each message that `git fsck` has about
 //!   it, and one with the numbers of objects.
 //!
@@ -11,6 +12,7 @@
 #![tactic(auto)]
 
 mod arguments;
+mod bases;
 mod check;
 mod checked;
 mod descriptions;

@@ -4,6 +4,7 @@ ghost use Rattle.gixobj_cli_batch.specs.Reports.{IsCommandError, IsReportError, 
 ghost use Rattle.gixobj_records.specs.Records.{record_view};
 
 use crate::arguments::Command;
+use crate::bases::list_bases;
 use crate::check::check;
 use crate::differences::list_changes;
 use crate::fault::Fault;
@@ -50,6 +51,10 @@ fn report_on(alloc: Global, command: Command, records: &[Record<'_>]) -> Result<
         Command::Diff(from, to) => {
             let store = store_of(alloc, records)?;
             list_changes(alloc, &store, from, to)
+        }
+        Command::MergeBase(one, other) => {
+            let store = store_of(alloc, records)?;
+            list_bases(alloc, &store, one, other)
         }
         Command::Check(strict) => check(alloc, strict, records),
     }
