@@ -1,4 +1,4 @@
-//! Each call over a known graph, `two-lines-and-merge` of the table. Its results are those that git prints for the graph.
+//! Each call over a known graph, `two-lines-and-merge` of the table. The results are those that git prints for it.
 ghost use Rattle.std.specs.Prelude.{◌≤◌, length};
 ghost use Rattle.gixobj_walks_known.specs.Known.{IsKnownGraph};
 
