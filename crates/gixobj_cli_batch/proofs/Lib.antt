@@ -1,3 +1,4 @@
 mod Appended
 mod Records
 mod Reported
+mod WalkArguments

@@ -5,7 +5,7 @@ use Rattle.gix_object.specs.Hash.{encode_id_hex}
 use Rattle.gix_object.specs.Kind.{kind_name}
 use Rattle.gix_object.specs.hash.hash.object_id.ObjectId.{ObjectId}
 use Rattle.gix_object.specs.hash.kind.Kind.{Kind}
-use Rattle.gixobj_cli_batch.specs.Descriptions.{message_description}
+use Rattle.gixobj_cli_messages.specs.Descriptions.{message_description}
 use Rattle.gixobj_fsck_messages.specs.Messages.{message_name}
 use Rattle.gixobj_fsck_messages.specs.Severities.{counts_as_error, severity_of}
 use Rattle.gixobj_fsck_messages.specs.declared.finding.Finding.{Finding}

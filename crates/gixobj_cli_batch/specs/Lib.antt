@@ -1,7 +1,6 @@
 pub mod Arguments
 pub mod CheckLines
 pub mod Checks
-pub mod Descriptions
 pub mod FindingLines
 pub mod Lines
 pub mod Objects

@@ -10,7 +10,7 @@ use Rattle.gixobj_cli_batch.specs.CheckLines.{PrintsCheck}
 use Rattle.gixobj_cli_batch.specs.Lines.{change_line, file_line, log_line}
 use Rattle.gixobj_cli_batch.specs.Objects.{never_fails, objects_of}
 use Rattle.gixobj_cli_batch.specs.Trees.{IsTreeOf, NamesCommitObject}
-use Rattle.gixobj_cli_batch.specs.Walks.{IsMergeBaseError, PrintsMergeBases}
+use Rattle.gixobj_cli_batch.specs.Walks.{IsMergeBaseError, IsRevListError, PrintsMergeBases, PrintsRevList}
 use Rattle.gixobj_cli_batch.specs.declared.arguments.Command.{Command}
 use Rattle.gixobj_cli_batch.specs.declared.arguments.Command.TheVariants as command
 use Rattle.gixobj_cli_batch.specs.declared.fault.Fault.{Fault}
@@ -69,6 +69,8 @@ Prints (command.Log id) records lines fault = PrintsLog (objects_of records) id 
 Prints (command.List id) records lines fault = PrintsFiles (objects_of records) id lines fault
 Prints (command.Diff from to) records lines fault = PrintsChanges (objects_of records) from to lines fault
 Prints (command.MergeBase one other) records lines fault = PrintsMergeBases (objects_of records) one other lines fault
+Prints (command.RevList order tip hidden) records lines fault =
+    PrintsRevList (objects_of records) order tip hidden lines fault
 Prints (command.Check strict) records lines fault = PrintsCheck strict records lines fault
 
 -- the input is the concatenation of records, and these are the lines of a command on them, and the error after them
@@ -108,6 +110,7 @@ IsCommandError (command.Log id) records fault = fault ≡ program.OutOfMemory
 IsCommandError (command.List id) records fault = IsFilesError (objects_of records) id fault
 IsCommandError (command.Diff from to) records fault = IsDiffError (objects_of records) from to fault
 IsCommandError (command.MergeBase one other) records fault = IsMergeBaseError (objects_of records) one other fault
+IsCommandError (command.RevList order tip hidden) records fault = IsRevListError (objects_of records) tip hidden fault
 IsCommandError (command.Check strict) records fault = fault ≡ program.OutOfMemory
 
 -- the error of a command on this input, without lines: the input isn't a sequence of records; or that on its records

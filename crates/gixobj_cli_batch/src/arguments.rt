@@ -1,11 +1,14 @@
 //! The command that the arguments of the program name.
-ghost use Rattle.std.specs.Prelude.{[], ◌∷◌, ◌≢◌, IfErr, IfNone, IfSome, codes, map};
+ghost use Rattle.std.specs.Prelude.{[], ◌∷◌, ◌≡◌, ◌≢◌, ◌++◌, IfErr, IfNone, IfSome, codes, map};
 ghost use Rattle.std.specs.String.{string_bytes};
-ghost use Rattle.gixobj_cli_batch.specs.Arguments.{IsArgumentsError, IsIdArgument, NamesCommand, NamesNoCommand};
-ghost use Rattle.gixobj_cli_batch.specs.Arguments.{NamesNoId};
+ghost use Rattle.gixobj_cli_batch.specs.Arguments.{AreWalkArguments, IsArgumentsError, IsHiddenArgument};
+ghost use Rattle.gixobj_cli_batch.specs.Arguments.{IsIdArgument, NamesCommand, NamesNoCommand, NamesNoHiddenId};
+ghost use Rattle.gixobj_cli_batch.specs.Arguments.{NamesNoId, NamesNoWalk, NamesNoOrder, order_arguments};
+ghost use Rattle.gixobj_walks_graph.specs.declared.order.Order.TheVariants.{Date};
 
 use crate::fault::Fault;
 use gix_object::hash::ObjectId;
+use gixobj_walks_graph::Order;
 use std::env;
 use std::rt::Env;
 
@@ -20,6 +23,15 @@ pub(crate) enum Command {
     Diff(ObjectId, ObjectId),
     /// The merge bases of two commits.
     MergeBase(ObjectId, ObjectId),
+    /// The commits that a commit reaches and a hidden one doesn't.
+    RevList {
+        /// The order of the commits.
+        order: Order,
+        /// The commit that reaches them, or a tag of it.
+        tip: ObjectId,
+        /// The hidden commit, or a tag of it; or `None`.
+        hidden: Option<ObjectId>,
+    },
     /// The faults of the objects, and git's findings about them, in a check that is strict or not.
     Check(bool),
 }
@@ -43,16 +55,21 @@ pub(crate) fn command_of(arguments: &[String]) -> Option<Command>
     ensures found { IfSome result (NamesCommand (map string_bytes arguments.now)) }
     ensures none { IfNone result (NamesNoCommand (map string_bytes arguments.now)) }
 {
-    match arguments {
-        [name] => command_alone(name),
-        [name, argument] => command_of_pair(name, argument),
-        [name, first, second] => command_of_ids(name, first, second),
+    let (name, rest) = arguments.split_first()?;
+    if name.as_str() == "rev-list" {
+        return rev_list_of(rest);
+    }
+    match rest {
+        [] => command_alone(name),
+        [argument] => command_of_pair(name, argument),
+        [first, second] => command_of_ids(name, first, second),
         _ => None,
     }
 }
 
 /// Returns the command that a name alone names, or `None`.
 fn command_alone(name: &String) -> Option<Command>
+    requires { string_bytes name.now ≢ codes "rev-list" }
     ensures found { IfSome result (NamesCommand (string_bytes name.now ∷ [])) }
     ensures none { IfNone result (NamesNoCommand (string_bytes name.now ∷ [])) }
 {
@@ -64,6 +81,7 @@ fn command_alone(name: &String) -> Option<Command>
 
 /// Returns the command that a name and another argument name, or `None`.
 fn command_of_pair(name: &String, argument: &String) -> Option<Command>
+    requires { string_bytes name.now ≢ codes "rev-list" }
     ensures found { IfSome result
         (NamesCommand (string_bytes name.now ∷ string_bytes argument.now ∷ [])) }
     ensures none { IfNone result
@@ -90,7 +108,8 @@ fn strict_check(argument: &String) -> Option<Command>
 
 /// Returns the command that a name and an id name, or `None`. The name isn't `check`.
 fn command_of_id(name: &String, id: &String) -> Option<Command>
-    requires { string_bytes name.now ≢ codes "check" }
+    requires known { string_bytes name.now ≢ codes "rev-list" }
+    requires other { string_bytes name.now ≢ codes "check" }
     ensures found { IfSome result
         (NamesCommand (string_bytes name.now ∷ string_bytes id.now ∷ [])) }
     ensures none { IfNone result
@@ -108,6 +127,7 @@ fn command_of_id(name: &String, id: &String) -> Option<Command>
 
 /// Returns the command that a name and two ids name, or `None`.
 fn command_of_ids(name: &String, first: &String, second: &String) -> Option<Command>
+    requires { string_bytes name.now ≢ codes "rev-list" }
     ensures found { IfSome result (NamesCommand
         (string_bytes name.now ∷ string_bytes first.now ∷ string_bytes second.now ∷ [])) }
     ensures none { IfNone result (NamesNoCommand
@@ -122,6 +142,68 @@ fn command_of_ids(name: &String, first: &String, second: &String) -> Option<Comm
         return Some(Command::MergeBase(first, second));
     }
     None
+}
+
+/// Returns the command `rev-list` with these arguments, or `None`.
+#[tactic(auto, using(crate::proofs::WalkArguments::no_rev_list))]
+fn rev_list_of(arguments: &[String]) -> Option<Command>
+    ensures found { IfSome result
+        (NamesCommand (codes "rev-list" ∷ map string_bytes arguments.now)) }
+    ensures none { IfNone result
+        (NamesNoCommand (codes "rev-list" ∷ map string_bytes arguments.now)) }
+{
+    let (order, ids) = order_of(arguments);
+    let (tip, hidden) = tip_and_hidden(ids)?;
+    Some(Command::RevList { order, tip, hidden })
+}
+
+/// Returns the order that the first argument names, by date if it names none, and the arguments after it.
+fn order_of(arguments: &[String]) -> (Order, &[String])
+    ensures order { map string_bytes arguments.now
+        ≡ order_arguments result.0 ++ map string_bytes result.1.now }
+    ensures none { result.0 ≡ Date → NamesNoOrder (map string_bytes arguments.now) }
+{
+    match arguments.split_first() {
+        Some((first, rest)) if first.as_str() == "--topo-order" => (Order::Topological, rest),
+        _ => (Order::Date, arguments),
+    }
+}
+
+/// Returns the tip of a walk, and the hidden id after it or `None`; or `None` if the arguments are others.
+fn tip_and_hidden(arguments: &[String]) -> Option<(ObjectId, Option<ObjectId>)>
+    ensures found { IfSome result (λ ids. AreWalkArguments (map string_bytes arguments.now)
+        ids.0 ids.1) }
+    ensures none { IfNone result (NamesNoWalk (map string_bytes arguments.now)) }
+{
+    match arguments {
+        [tip] => Some((id_of(tip)?, None)),
+        [tip, hidden] => tip_with_hidden(tip, hidden),
+        _ => None,
+    }
+}
+
+/// Returns the tip of a walk and the hidden id after it, or `None` if the arguments are others.
+#[tactic(auto, using(crate::proofs::WalkArguments::no_walk_without_hidden))]
+fn tip_with_hidden(tip: &String, hidden: &String) -> Option<(ObjectId, Option<ObjectId>)>
+    ensures found { IfSome result (λ ids. AreWalkArguments
+        (string_bytes tip.now ∷ string_bytes hidden.now ∷ []) ids.0 ids.1) }
+    ensures none { IfNone result
+        (NamesNoWalk (string_bytes tip.now ∷ string_bytes hidden.now ∷ [])) }
+{
+    let tip = id_of(tip)?;
+    let hidden = hidden_id_of(hidden)?;
+    Some((tip, Some(hidden)))
+}
+
+/// Returns the id after the `^` of an argument, or `None` if it is no `^` and hex of an id.
+fn hidden_id_of(argument: &String) -> Option<ObjectId>
+    ensures found { IfSome result (IsHiddenArgument (string_bytes argument.now)) }
+    ensures none { IfNone result (NamesNoHiddenId (string_bytes argument.now)) }
+{
+    match argument.as_bytes() {
+        [b'^', hex @ ..] => ObjectId::from_hex(hex),
+        _ => None,
+    }
 }
 
 /// Returns the id of an argument, or `None` if it is no hex of an id.

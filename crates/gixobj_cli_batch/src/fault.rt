@@ -16,7 +16,8 @@ use std::io;
 #[derive(Debug, Drop, thiserror::Error)]
 pub(crate) enum Fault {
     /// The arguments name no command.
-    #[error("usage: gixobj_cli_batch log ID | ls ID | diff ID ID | merge-base ID ID | check [--strict]")]
+    #[error("usage: gixobj_cli_batch log ID | ls ID | diff ID ID | merge-base ID ID | \
+        rev-list [--topo-order] ID [^ID] | check [--strict]")]
     Usage,
     /// The input isn't a sequence of records.
     #[error("{0}")]

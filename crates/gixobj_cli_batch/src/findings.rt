@@ -4,10 +4,10 @@ ghost use Rattle.std.specs.List.{flat_map, list_any};
 ghost use Rattle.gixobj_cli_batch.specs.FindingLines.{finding_head, finding_line, finding_tail, is_error};
 ghost use Rattle.gixobj_cli_batch.specs.FindingLines.{severity_label};
 
-use crate::descriptions::message_description;
 use crate::lines::{push_id, push_number};
 use gix_object::Kind;
 use gix_object::hash::ObjectId;
+use gixobj_cli_messages::message_description;
 use gixobj_fsck_messages::Finding;
 use std::alloc::AllocError;
 

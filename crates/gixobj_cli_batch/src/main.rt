@@ -5,6 +5,8 @@
 //! - `ls ID`: a line `<mode> <kind> <id>` for each file of a commit or a tree, with a tab and its path;
 //! - `diff ID ID`: a line for each change between two, as `git diff-tree -r` prints it;
 //! - `merge-base ID ID`: a line `<id>` for each merge base of two commits, as `git merge-base --all` prints it;
+//! - `rev-list [--topo-order] ID [^ID]`: a line `<id>` for each commit that the first id reaches and the second
+//!   doesn't, as `git rev-list --date-order` and `git rev-list --topo-order` print them;
 //! - `check`, `check --strict`: a line for each fault of an object, and one for each message that `git fsck` has about
 //!   it, and one with the numbers of objects.
 //!
@@ -15,7 +17,6 @@ mod arguments;
 mod bases;
 mod check;
 mod checked;
-mod descriptions;
 mod differences;
 mod engine;
 mod fault;
@@ -27,6 +28,7 @@ mod lines;
 mod output;
 mod report;
 mod store;
+mod walks;
 
 use arguments::process_arguments;
 use engine::{engine, report};

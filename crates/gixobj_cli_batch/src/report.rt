@@ -11,6 +11,7 @@ use crate::fault::Fault;
 use crate::files::list_files;
 use crate::history::list_commits;
 use crate::store::store_of;
+use crate::walks::list_walk;
 use gixobj_records::{Record, decode_records};
 use std::alloc::Global;
 
@@ -55,6 +56,10 @@ fn report_on(alloc: Global, command: Command, records: &[Record<'_>]) -> Result<
         Command::MergeBase(one, other) => {
             let store = store_of(alloc, records)?;
             list_bases(alloc, &store, one, other)
+        }
+        Command::RevList { order, tip, hidden } => {
+            let store = store_of(alloc, records)?;
+            list_walk(alloc, &store, order, tip, hidden)
         }
         Command::Check(strict) => check(alloc, strict, records),
     }

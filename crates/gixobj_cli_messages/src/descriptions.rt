@@ -1,11 +1,11 @@
 //! What the messages of git mean.
 ghost use Rattle.std.specs.Prelude.{◌≡◌};
-ghost use Rattle.gixobj_cli_batch.specs.Descriptions.{message_description};
+ghost use Rattle.gixobj_cli_messages.specs.Descriptions.{message_description};
 
 use gixobj_fsck_messages::Message;
 
 /// Returns what a message means. Allocates nothing.
-pub(crate) fn message_description(message: Message) -> &'static str
+pub fn message_description(message: Message) -> &'static str
     ensures { result.now ≡ message_description message }
 {
     match message {
