@@ -1,5 +1,5 @@
 //! Audits of runs and imports: what they changed, and what their stores have then; of two stores, whether their
-//! roots have the same files. Each is proved by public contracts and laws alone.
+//! roots have the same files. Each is proved by public contracts, laws and lemmas.
 #![tactic(auto)]
 
 pub mod canonical;

@@ -1,4 +1,4 @@
-//! Callers of the public calls on stores, trees and edits, each proved by their contracts and laws alone.
+//! Callers of the public calls on stores, trees and edits, each proved by their contracts, laws and lemmas.
 //!
 //! They show what users can rely on:
 //!

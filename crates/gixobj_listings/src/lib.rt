@@ -1,5 +1,5 @@
-//! Listings of the files of stored trees, comparisons of trees, and logs, each proved by public contracts and laws
-//! alone.
+//! Listings of the files of stored trees, comparisons of trees, and logs, each proved by public contracts, laws
+//! and lemmas.
 #![tactic(auto)]
 
 pub mod differences;
