@@ -1,6 +1,6 @@
 //! The commits that a walk or a search knows by their ids.
-ghost use Rattle.std.specs.Prelude.{◌≡◌, ◌↔◌, ◌⊎◌, ◌+◌, ◌++◌, ◌<◌, None, Some, [], false, ℕ, Bool, List};
-ghost use Rattle.std.specs.Prelude.{IfNone, IfOk, IfSome, IsSome, Contains, length, replicate};
+ghost use Rattle.std.specs.Prelude.{◌≡◌, ◌↔◌, ◌⊎◌, ◌+◌, ◌++◌, ◌/◌, ◌<◌, ◌≤◌, None, Some, [], false, ℕ, Bool, List};
+ghost use Rattle.std.specs.Prelude.{IfNone, IfOk, IfSome, IsSome, Contains, length, min, replicate};
 ghost use Rattle.std.specs.List.{AllByRecursion, AllZip};
 ghost use Rattle.gixobj_hash.specs.declared.hash.object_id.ObjectId.{ObjectId as Id};
 ghost use Rattle.gixobj_walks_graph.specs.Graph.{IsRead, NodeView};
@@ -106,8 +106,11 @@ impl KnownCommits {
 }
 
 /// Returns with how many commits the next test is made whether enough are read: after a test, with a quarter more. So
-/// all tests together take linear time.
-pub fn test_after(reads: usize, next_test: usize) -> usize {
+/// the number of tests grows with the logarithm of that of the commits.
+pub(crate) fn test_after(reads: usize, next_test: usize) -> usize
+    ensures kept { reads < next_test → result ≡ next_test }
+    ensures later { next_test ≤ reads → result ≡ min (reads + reads / 4 + 1) usize.MAX }
+{
     if reads < next_test {
         next_test
     } else {
